@@ -1,0 +1,33 @@
+//! What every crate of the database stands on: addresses, limits, lists of bytes, texts, and the outside as traits.
+//!
+//! The layer knows nothing of graphs, values or requests. Contracts see `Bin` as a list of bytes, `Txt` as the bytes
+//! of a text, and a source or a sink as the bytes that it has left or has taken, with a count of its faults.
+#![tactic(auto)]
+
+mod bin;
+mod gate;
+mod in_memory;
+mod limits;
+mod outside;
+mod place;
+
+pub use bin::{Bin, Txt};
+pub use gate::{Gate, NoGate, Point};
+pub use in_memory::{MemSink, MemSource};
+pub use limits::{
+    ATTRIBUTE_LIMIT, CHANGE_BYTES_LIMIT, CHANGE_LIMIT, GRAPH_NUMBER_LIMIT, KEY_LIMIT, LINE_LIMIT,
+    NAME_LIMIT, NODE_LIMIT, OBJECT_LIMIT, PATH_LIMIT, READ_LIMIT, RECORD_LIMIT, REGION_LIMIT,
+    SCRIPT_LIMIT, SESSION_LIMIT, STAMP_LIMIT, TEXT_LIMIT, WORKING_SET_LIMIT,
+};
+pub use outside::{Failed, Sink, Source};
+pub use place::{Addr, TxnId};
+
+/// Want of memory: an allocation was refused.
+#[derive(Clone, Copy, Debug, PartialEq, Eq)]
+pub struct Memory;
+
+impl From<std::alloc::AllocError> for Memory {
+    fn from(_: std::alloc::AllocError) -> Self {
+        Memory
+    }
+}

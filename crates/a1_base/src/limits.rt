@@ -1,0 +1,55 @@
+//! The sizes that the database keeps to.
+
+/// The most nodes of a database.
+pub const NODE_LIMIT: u32 = 16;
+
+/// The most sessions of a script.
+pub const SESSION_LIMIT: u32 = 32;
+
+/// The most bytes of a script.
+pub const SCRIPT_LIMIT: usize = 33_554_432;
+
+/// The most bytes of a line of a script, without its end.
+pub const LINE_LIMIT: usize = 1_048_576;
+
+/// The most bytes that one read of a source asks for.
+pub const READ_LIMIT: usize = 65_536;
+
+/// The most bytes of a name.
+pub const NAME_LIMIT: usize = 64;
+
+/// The most attributes of a type.
+pub const ATTRIBUTE_LIMIT: usize = 32;
+
+/// The most bytes of a text or of a value of bytes.
+pub const TEXT_LIMIT: usize = 4_096;
+
+/// The most bytes of a key and of an indexed value.
+pub const KEY_LIMIT: usize = 256;
+
+/// The most bytes of an encoded record.
+pub const RECORD_LIMIT: usize = 16_384;
+
+/// The most bytes of an object.
+pub const OBJECT_LIMIT: usize = 65_536;
+
+/// The most changes of one request.
+pub const CHANGE_LIMIT: usize = 1_024;
+
+/// The most bytes that the changes of one request take when they are stored.
+pub const CHANGE_BYTES_LIMIT: usize = 1_048_576;
+
+/// The most edge patterns on one path of a query.
+pub const PATH_LIMIT: usize = 8;
+
+/// The most vertices in a working set of a query.
+pub const WORKING_SET_LIMIT: usize = 100_000;
+
+/// The most regions of a node.
+pub const REGION_LIMIT: u32 = 1_048_576;
+
+/// Every stamp is below this.
+pub const STAMP_LIMIT: u64 = 4_611_686_018_427_387_904;
+
+/// Every graph number is below this.
+pub const GRAPH_NUMBER_LIMIT: u64 = 4_611_686_018_427_387_903;

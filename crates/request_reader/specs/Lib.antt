@@ -1,0 +1,3 @@
+pub mod Graph
+pub mod Request
+pub mod Effect
