@@ -1,0 +1,71 @@
+-- What a reply prints.
+use Rattle.std.specs.Prelude.{ℕ, List, [], ◌∷◌, ◌++◌, map, true, Option, Some, None, codes, decimal}
+use Rattle.std.specs.List.{flat_map}
+use Rattle.hex.specs.Hex.{encode_lower}
+use Rattle.serde_json.specs.Data.{unsigned, Data, boolean, number, string, array, object, Items, Members, no_members, member}
+use Rattle.serde_json.specs.Find.{of_integer}
+use Rattle.serde_json.specs.View.{items_of}
+use Rattle.serde_json.specs.Written.{compact_text}
+use Rattle.a1_json.specs.Written.{put_all}
+use Rattle.a1_value.specs.declared.value.Value.{Value}
+use Rattle.a1_value.specs.declared.value.Value.TheVariants.{Int, Text, Bytes}
+use Rattle.request_reader.specs.declared.refusal.Word.{Word}
+use Rattle.request_reader.specs.declared.refusal.Word.TheVariants.{KeyTaken}
+use Rattle.request_reader.specs.declared.request.BadWord.{BadWord}
+use Rattle.request_reader.specs.declared.request.BadWord.TheVariants.{NotBuilt}
+use Rattle.request_reader.specs.declared.answer.Row.{Row}
+use Rattle.answer_text.specs.declared.reply.Reply.{Reply}
+use Rattle.answer_text.specs.declared.reply.Reply.TheVariants.{Ok, Rows, Refused, Bad, Memory}
+
+-- ---- stamps
+
+-- the stamp at which the reply says that it was committed
+abbrev pub ok_stamp : Reply → Option ℕ
+ok_stamp (Ok stamp) = Some stamp
+ok_stamp (Rows at rows) = None
+ok_stamp (Refused at refusal) = None
+ok_stamp (Bad word) = None
+ok_stamp Memory = None
+
+-- the stamp that the reply prints, as `ok` or as `at`
+abbrev pub printed : Reply → Option ℕ
+printed (Ok stamp) = Some stamp
+printed (Rows at rows) = Some at
+printed (Refused at refusal) = Some at
+printed (Bad word) = None
+printed Memory = None
+
+-- ---- text
+
+abbrev pub word_text : Word → List ℕ
+word_text KeyTaken = codes "key_taken"
+
+abbrev pub bad_text : BadWord → List ℕ
+bad_text NotBuilt = codes "not_built"
+
+-- a value as JSON: bytes are a text of lower-case hexadecimal digits
+abbrev pub value_data : Value → Data
+value_data (Int n) = number (of_integer n)
+value_data (Text text) = string text
+value_data (Bytes bytes) = string (encode_lower bytes)
+
+abbrev pub row_members : List (List ℕ × Value) → Members
+row_members members = put_all no_members (map (λ m. (m.0, value_data m.1)) members)
+
+abbrev pub row_data : Row → Data
+row_data row = object (row_members row.members)
+
+abbrev pub rows_data : List Row → Items
+rows_data rows = items_of (map row_data rows)
+
+-- a reply as JSON
+abbrev pub reply_data : Reply → Data
+reply_data (Ok stamp) = object (member (codes "ok") (number (unsigned stamp)) no_members)
+reply_data (Rows at rows) = object (member (codes "at") (number (unsigned at)) (member (codes "rows") (array (rows_data rows)) no_members))
+reply_data (Refused at refusal) = object (member (codes "at") (number (unsigned at)) (member (codes "refused") (string (word_text refusal.word)) no_members))
+reply_data (Bad word) = object (member (codes "bad") (string (bad_text word)) no_members)
+reply_data Memory = object (member (codes "memory") (boolean true) no_members)
+
+-- its compact text
+unfoldable pub reply_text : Reply → List ℕ
+reply_text reply = compact_text (reply_data reply)

@@ -1,0 +1,113 @@
+-- A script: its lines, and the sessions that they make up.
+use Rattle.std.specs.Prelude.{◌≡◌, ℕ, ◌+◌, ◌-◌, ◌*◌, List, [], ◌∷◌, ◌++◌, length, sum_by, Bool, ◌==◌, ◌&&◌, nat_lt, nat_le, if◌then◌else◌, filter, map, Result, Ok, Err, Option, Some, None, option_and_then, ⊤}
+use Rattle.std.specs.List.{flat_map, list_any}
+use Rattle.answer_text.specs.declared.transcript.Line as whole
+use Rattle.answer_text.specs.declared.transcript.Transcript.{Transcript}
+use Rattle.run_text.specs.declared.script.ScriptFault.{ScriptFault}
+use Rattle.run_text.specs.declared.script.ScriptFault.TheVariants.{Line, Memory}
+
+-- ---- lines
+
+-- these bytes in front of the first line
+abbrev pub onto : List ℕ → List (List ℕ) → List (List ℕ)
+onto front [] = front ∷ []
+onto front (line ∷ lines) = (front ++ line) ∷ lines
+
+-- the lines of a text, without their ends; what stands behind the last end is a line where it has a byte
+abbrev pub lines_in : List ℕ → List (List ℕ)
+lines_in [] = []
+lines_in (b ∷ bs) = if b == 10 then [] ∷ lines_in bs else onto (b ∷ []) (lines_in bs)
+
+-- ---- one line
+
+-- the most bytes of a script
+abbrev pub script_limit : ℕ
+script_limit = 33554432
+
+-- the most bytes of a line without its end
+abbrev pub line_limit : ℕ
+line_limit = 1048576
+
+-- the numbers of the sessions that are served, rising
+abbrev pub session_numbers : List ℕ
+session_numbers = 1 ∷ []
+
+abbrev pub is_session : ℕ → Bool
+is_session n = list_any (λ s. n == s) session_numbers
+
+abbrev pub is_digit : ℕ → Bool
+is_digit b = nat_le 48 b && nat_le b 57
+
+-- the number that goes on with the digits up to the blank, and what stands behind the blank
+abbrev pub number_on : ℕ → List ℕ → Option (ℕ × List ℕ)
+number_on n [] = None
+number_on n (b ∷ bs) = if b == 32 then Some (n, bs) else (if is_digit b then number_on (10 * n + (b - 48)) bs else None)
+
+-- a number in decimal without a leading zero, a blank, and the rest
+abbrev pub numbered : List ℕ → Option (ℕ × List ℕ)
+numbered [] = None
+numbered (b ∷ bs) = if is_digit b && nat_lt 48 b then number_on (b - 48) bs else None
+
+abbrev pub of_session : ℕ × List ℕ → Option (ℕ × List ℕ)
+of_session (n, request) = if is_session n then Some (n, request) else None
+
+-- the session and the request of a line that has a byte
+abbrev pub entry_in : List ℕ → Option (ℕ × List ℕ)
+entry_in line = if nat_le (length line) line_limit then option_and_then of_session (numbered line) else None
+
+-- ---- all lines
+
+-- an entry, or none, before those of the rest
+abbrev pub with_entry : ℕ → Option (ℕ × List ℕ) → Result (List (ℕ × List ℕ)) ℕ → Result (List (ℕ × List ℕ)) ℕ
+with_entry n None rest = Err n
+with_entry n (Some entry) (Ok entries) = Ok (entry ∷ entries)
+with_entry n (Some entry) (Err line) = Err line
+
+-- a line before the rest; one of no bytes is skipped
+abbrev pub with_line : ℕ → List ℕ → Result (List (ℕ × List ℕ)) ℕ → Result (List (ℕ × List ℕ)) ℕ
+with_line n [] rest = rest
+with_line n (b ∷ bs) rest = with_entry n (entry_in (b ∷ bs)) rest
+
+-- the entries of the lines from line n on, or the number of the first that breaks the grammar
+abbrev pub entries_from : ℕ → List (List ℕ) → Result (List (ℕ × List ℕ)) ℕ
+entries_from n [] = Ok []
+entries_from n (line ∷ lines) = with_line n line (entries_from (n + 1) lines)
+
+-- ---- sessions
+
+abbrev pub requests_of : List (ℕ × List ℕ) → ℕ → List (List ℕ)
+requests_of entries n = map (λ e. e.1) (filter (λ e. e.0 == n) entries)
+
+-- a session, where it has a request
+abbrev pub with_requests : ℕ → List (List ℕ) → List (ℕ × List (List ℕ))
+with_requests n [] = []
+with_requests n (r ∷ rs) = (n, r ∷ rs) ∷ []
+
+-- the sessions that have requests, by rising number, each with its requests in order
+abbrev pub sessions_of : List (ℕ × List ℕ) → List (ℕ × List (List ℕ))
+sessions_of entries = flat_map (λ n. with_requests n (requests_of entries n)) session_numbers
+
+abbrev pub sessions_in : Result (List (ℕ × List ℕ)) ℕ → Result (List (ℕ × List (List ℕ))) ℕ
+sessions_in (Ok entries) = Ok (sessions_of entries)
+sessions_in (Err line) = Err line
+
+-- the sessions of a script, or the number of its first line that breaks the grammar; 0 where it is too long
+unfoldable pub script_of : List ℕ → Result (List (ℕ × List (List ℕ))) ℕ
+script_of bytes = if nat_lt script_limit (length bytes) then Err 0 else sessions_in (entries_from 1 (lines_in bytes))
+
+abbrev pub request_count : List (ℕ × List (List ℕ)) → ℕ
+request_count sessions = sum_by (λ t. length t.1) sessions
+
+-- the sessions of a transcript, with their requests
+abbrev pub asked_in : List Transcript → List (ℕ × List (List ℕ))
+asked_in sessions = map (λ t. (t.session, map (λ (line : whole.Line). line.request) t.lines)) sessions
+
+-- the transcript has the script's sessions and requests, in order, with one reply per request
+abbrev pub IsOf : List Transcript → List ℕ → Type 0
+IsOf sessions script = script_of script ≡ Ok (asked_in sessions)
+
+-- a reading gives this, or wants memory
+abbrev pub ReadsAs : Result (List (ℕ × List (List ℕ))) ScriptFault → Result (List (ℕ × List (List ℕ))) ℕ → Type 0
+ReadsAs (Ok sessions) wanted = wanted ≡ Ok sessions
+ReadsAs (Err (Line n)) wanted = wanted ≡ Err n
+ReadsAs (Err Memory) wanted = ⊤

@@ -1,0 +1,94 @@
+//! The lines of a script, one after another.
+ghost use Rattle.std.specs.Prelude.{◌≡◌, ◌<◌, ◌≤◌, ◌+◌, ◌∷◌, Ok, List, ℕ, Result, length, take, drop, map, IfOk, OnOk, IfErr, option_map, option_and_then};
+ghost use Rattle.run_text.specs.Script.{lines_in, numbered, of_session, entry_in, with_line, entries_from, script_limit};
+ghost use Rattle.run_text.specs.Reading.{in_first, joined, IsFaultOf};
+
+use crate::ScriptFault;
+use a1_base::{Bin, LINE_LIMIT};
+use std::alloc::Global;
+
+// How long the first line is.
+#[tactic(auto, using(crate::proofs::ScriptLemmas::onto_onto))]
+fn line_len(bytes: &[u8]) -> usize
+    requires { 0 < length bytes.now }
+    ensures within { result ≤ length bytes.now }
+    ensures lines { lines_in bytes.now ≡ take result bytes.now ∷ lines_in (drop (result + 1) bytes.now) }
+{
+    for (at, byte) in bytes.iter().enumerate() {
+        if *byte == b'\n' {
+            return at;
+        }
+    }
+    bytes.len()
+}
+
+// What stands behind the number of session 1, the only one that is served, and a blank.
+fn behind_number(line: &[u8]) -> Option<&[u8]>
+    ensures { option_map (λ r. in_first r.now) result ≡ option_and_then of_session (numbered line.now) }
+{
+    let (first, rest) = line.split_first()?;
+    let (second, request) = rest.split_first()?;
+    if *first == b'1' && *second == b' ' {
+        Some(request)
+    } else {
+        None
+    }
+}
+
+// The request of a line that has a byte.
+fn request_in(line: &[u8]) -> Option<&[u8]>
+    ensures { option_map (λ r. in_first r.now) result ≡ entry_in line.now }
+{
+    if line.len() <= LINE_LIMIT {
+        behind_number(line)
+    } else {
+        None
+    }
+}
+
+// Adds the request of a line.
+#[tactic(auto, using(crate::proofs::ScriptLemmas::joined_entry))]
+fn add_line(
+    alloc: Global,
+    requests: &mut Vec<Bin>,
+    number: u64,
+    line: &[u8],
+) -> Result<(), ScriptFault>
+    ensures ok { OnOk result ((rest : Result (List (ℕ × List ℕ)) ℕ) →
+        joined (map in_first requests.old.items) (with_line number line.now rest) ≡ joined (map in_first requests.new.items) rest) }
+    ensures one { length requests.new.items ≤ length requests.old.items + 1 }
+    ensures fault { IfErr result (λ e. (rest : Result (List (ℕ × List ℕ)) ℕ) → IsFaultOf e (with_line number line.now rest)) }
+{
+    if line.is_empty() {
+        return Ok(());
+    }
+    let Some(request) = request_in(line) else {
+        return Err(ScriptFault::Line(number));
+    };
+    let request = Bin::from_slice(alloc, request)?;
+    match requests.push(request) {
+        Ok(()) => Ok(()),
+        Err(_) => Err(ScriptFault::Memory),
+    }
+}
+
+// The requests of the lines of a script.
+pub fn read_requests(alloc: Global, bytes: &[u8]) -> Result<Vec<Bin>, ScriptFault>
+    requires { length bytes.now ≤ script_limit }
+    ensures ok { IfOk result (λ requests. entries_from 1 (lines_in bytes.now) ≡ Ok (map in_first requests.items)) }
+    ensures few { IfOk result (λ requests. length requests.items ≤ length bytes.now) }
+    ensures fault { IfErr result (λ e. IsFaultOf e (entries_from 1 (lines_in bytes.now))) }
+{
+    let mut requests = Vec::new(alloc);
+    let mut at = 0;
+    let mut number = 1;
+    while at < bytes.len() {
+        let (_, rest) = bytes.split_at(at);
+        let len = line_len(rest);
+        let (line, _) = rest.split_at(len);
+        add_line(alloc, &mut requests, number, line)?;
+        at += len + 1;
+        number += 1;
+    }
+    Ok(requests)
+}
