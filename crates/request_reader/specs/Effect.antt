@@ -19,6 +19,9 @@ effect graph name = if has_name graph name then Err key_taken else Ok (with_name
 abbrev pub row_of : List ℕ → Row
 row_of name = record { members = (codes "id", Text name) ∷ [] }
 
+abbrev pub rows_in : Graph → List ℕ → List Row
+rows_in graph name = if has_name graph name then row_of name ∷ [] else []
+
 -- what an ask for this name is answered
 abbrev pub answer : Graph → List ℕ → Answer
-answer graph name = Rows (if has_name graph name then row_of name ∷ [] else [])
+answer graph name = Rows (rows_in graph name)

@@ -1,0 +1,107 @@
+//! Serving the lines of a session.
+ghost use Rattle.std.specs.Prelude.{◌≡◌, ◌+◌, ◌<◌, ◌^◌, [], ◌∷◌, Ok, length, map, IfOk};
+ghost use Rattle.request_reader.specs.Request.{request_of};
+ghost use Rattle.request_reader.specs.Effect.{row_of, rows_in};
+ghost use Rattle.answer_text.specs.Legal.{IsLegal};
+ghost use Rattle.session.specs.Serving.{Step, Stands};
+
+use a1_base::{Bin, Memory, Txt};
+use a1_value::Value;
+use answer_text::{Line, Reply, Transcript};
+use graph_plain::Plain;
+use request_reader::{Refusal, Request, RequestFault, Row, Word, read};
+use sqlite_items::Items;
+use std::alloc::Global;
+
+// The row of a name: its whole record.
+fn row_of(alloc: Global, name: Txt) -> Result<Row, Memory>
+    ensures { IfOk result (λ row. row ≡ row_of name) }
+{
+    let mut members = Items::new(alloc);
+    members.push((Txt::from_text(alloc, "id")?, Value::Text(name)))?;
+    Ok(Row { members })
+}
+
+// The rows that an ask for a name gives.
+fn rows_in(alloc: Global, plain: &Plain, name: Txt) -> Result<Items<Row>, Memory>
+    ensures { IfOk result (λ rows. rows ≡ rows_in plain.now name) }
+{
+    let mut rows = Items::new(alloc);
+    if plain.has_name(&name) {
+        rows.push(row_of(alloc, name)?)?;
+    }
+    Ok(rows)
+}
+
+// Puts a name at the next stamp, or refuses it at the clock.
+fn serve_put(alloc: Global, plain: &mut Plain, clock: &mut u64, name: &Txt) -> Reply
+    requires { clock.old < 2 ^ 62 }
+    ensures { Step plain.old clock.old (Ok (Request.Put name.now)) result plain.new clock.new }
+{
+    match plain.put_name(alloc, name) {
+        Err(_) => Reply::Memory,
+        Ok(true) => {
+            *clock += 1;
+            Reply::Ok { stamp: *clock }
+        }
+        Ok(false) => Reply::Refused {
+            at: *clock,
+            refusal: Refusal {
+                word: Word::KeyTaken,
+            },
+        },
+    }
+}
+
+// Serves one request at the clock.
+fn serve_request(alloc: Global, plain: &mut Plain, clock: &mut u64, request: Request) -> Reply
+    requires { clock.old < 2 ^ 62 }
+    ensures { Step plain.old clock.old (Ok request) result plain.new clock.new }
+{
+    match request {
+        Request::Put(name) => serve_put(alloc, plain, clock, &name),
+        Request::Ask(name) => match rows_in(alloc, plain, name) {
+            Err(_) => Reply::Memory,
+            Ok(rows) => Reply::Rows { at: *clock, rows },
+        },
+    }
+}
+
+// Serves one line at the clock.
+fn serve_line(alloc: Global, plain: &mut Plain, clock: &mut u64, line: &[u8]) -> Reply
+    requires { clock.old < 2 ^ 62 }
+    ensures { Step plain.old clock.old (request_of line.now) result plain.new clock.new }
+{
+    match read(alloc, line) {
+        Ok(request) => serve_request(alloc, plain, clock, request),
+        Err(RequestFault::Bad(word)) => Reply::Bad { word },
+        Err(RequestFault::Memory) => Reply::Memory,
+    }
+}
+
+/// Serves the lines of the only session, one after another, from this graph at this clock on. Each commit takes the
+/// next stamp. `Memory` comes for want of memory for the transcript; want of memory inside one line is that line's
+/// reply.
+pub fn serve(
+    alloc: Global,
+    plain: &mut Plain,
+    clock: &mut u64,
+    number: u32,
+    requests: Vec<Bin>,
+) -> Result<Transcript, Memory>
+    requires { clock.old + length requests.items < 2 ^ 62 }
+    ensures session { IfOk result (λ t. t.session ≡ number) }
+    ensures requests { IfOk result (λ t. map (λ line. line.request) t.lines ≡ requests.items) }
+    ensures legal { IfOk result (λ t. IsLegal plain.old clock.old (t ∷ []) []) }
+    ensures stands { IfOk result (λ t. Stands plain.old clock.old t.lines plain.new clock.new) }
+{
+    let mut lines = Items::from_vec(Vec::with_capacity(alloc, requests.len())?);
+    for request in requests {
+        let reply = serve_line(alloc, plain, clock, request.as_slice());
+        lines.push(Line { request, reply })?;
+    }
+    Ok(Transcript {
+        session: number,
+        lines,
+    })
+}
