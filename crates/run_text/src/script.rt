@@ -1,6 +1,6 @@
 //! Scripts.
 ghost use Rattle.std.specs.Prelude.{◌≡◌, ◌≤◌, length, IfOk, map};
-ghost use Rattle.run_text.specs.Script.{script_of, request_count, ReadsAs};
+ghost use Rattle.run_text.specs.Script.{script_of, session_numbers, request_count, ReadsAs};
 
 use crate::lines::read_requests;
 use a1_base::{Bin, SCRIPT_LIMIT};
@@ -56,6 +56,7 @@ impl From<AllocError> for ScriptFault {
 pub fn read(alloc: Global, bytes: &[u8]) -> Result<Script, ScriptFault>
     ensures script { ReadsAs result (script_of bytes.now) }
     ensures few { IfOk result (λ script. request_count script ≤ length bytes.now) }
+    ensures sessions { IfOk result (λ script. length script ≤ length session_numbers) }
 {
     if bytes.len() > SCRIPT_LIMIT {
         return Err(ScriptFault::Line(0));

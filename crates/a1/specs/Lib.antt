@@ -1,0 +1,5 @@
+pub mod Stored
+pub mod MemStore
+pub mod Streams
+pub mod Outcome
+pub mod Parts

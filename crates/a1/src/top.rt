@@ -1,0 +1,237 @@
+//! The top call.
+ghost use Rattle.std.specs.Prelude.{◌≡◌, ℕ, ◌≤◌, ◌⊎◌, [], ◌∷◌, Ok, Some, false, length, string_bytes, IfOk, IfErr, IfSome};
+ghost use Rattle.std.specs.Io.KnownBytes.{append_known};
+ghost use Rattle.a1_base.specs.Outside.{Rose};
+ghost use Rattle.request_reader.specs.Graph.{opening};
+ghost use Rattle.answer_text.specs.Transcript.{text_of};
+ghost use Rattle.answer_text.specs.Legal.{IsLegal};
+ghost use Rattle.run_text.specs.Script.{script_of, script_limit, request_count, asked_in};
+ghost use Rattle.run_text.specs.Run.{empty_run};
+ghost use Rattle.a1.specs.Outcome.{is_run, opening_stamp, usage_text, bad_line_text, status_of, IsRunOf, IsLegalRun, IsBadAt, Ends};
+ghost use Rattle.a1.specs.Parts.{IsRequestFault, IsServed, SaysUsage, SaysLine, RunsScript};
+ghost use Rattle.a1.specs.declared.outcome.Ending.{Ending};
+
+use crate::outcome::{Ending, Outcome};
+use crate::store::Store;
+use crate::streams::{Input, ReadFault, read_all, write_all};
+use a1_base::{Bin, Gate, Memory, Sink, Source};
+use graph_plain::Plain;
+use run_text::{Run, Script, ScriptFault, Transcript, transcript};
+use session::serve;
+use sqlite_items::Items;
+use std::alloc::{AllocError, Global};
+use std::sync::Wait;
+
+/// The stamp of the graph that a database begins with.
+const OPENING_STAMP: u64 = 1;
+
+/// Why there is no script to serve.
+#[derive(Clone, Copy)]
+pub enum RequestFault {
+    /// The source failed.
+    Failed,
+    /// This line breaks the grammar; 0 where the script is too long.
+    Line(u64),
+    /// Want of memory.
+    Memory,
+}
+
+// Whether the words are `run` alone.
+fn is_run(words: &[String]) -> bool
+    ensures { result ≡ is_run words.now }
+{
+    match words {
+        [word] => word.as_str() == "run",
+        _ => false,
+    }
+}
+
+// The script that the source holds.
+#[tactic(auto, using(crate::proofs::TopLemmas::long_script))]
+fn script_in<R: Source>(alloc: Global, source: &mut R) -> Result<Script, RequestFault>
+    ensures ok { IfOk result (λ script. IfSome (R.left source.old) (λ bytes. script_of bytes ≡ Ok script)) }
+    ensures few { IfOk result (λ script. request_count script ≤ script_limit) }
+    ensures alone { IfOk result (λ script. length script ≤ 1) }
+    ensures end { IfOk result (λ script. IfSome (R.left source.old) (λ bytes. R.left source.new ≡ Some [])) }
+    ensures fault { IfErr result (IsRequestFault (R.left source.old) (R.faults source.old) (R.faults source.new)) }
+{
+    match read_all(alloc, source) {
+        Err(ReadFault::Failed) => Err(RequestFault::Failed),
+        Err(ReadFault::Memory) => Err(RequestFault::Memory),
+        Ok(Input::TooLong) => Err(RequestFault::Line(0)),
+        Ok(Input::Whole(bytes)) => match run_text::read(alloc, bytes.as_slice()) {
+            Ok(script) => Ok(script),
+            Err(ScriptFault::Line(line)) => Err(RequestFault::Line(line)),
+            Err(ScriptFault::Memory) => Err(RequestFault::Memory),
+        },
+    }
+}
+
+// Serves a session from the graph that a database begins with.
+fn serve_opening(alloc: Global, number: u32, requests: Vec<Bin>) -> Result<Transcript, Memory>
+    requires { length requests.items ≤ script_limit }
+    ensures of { IfOk result (λ t. asked_in (t ∷ []) ≡ (number, requests.items) ∷ []) }
+    ensures legal { IfOk result (λ t. IsLegal opening opening_stamp (t ∷ []) []) }
+{
+    let mut plain = Plain::opening(alloc)?;
+    let mut clock = OPENING_STAMP;
+    serve(alloc, &mut plain, &mut clock, number, requests)
+}
+
+// Serves the only session of a script.
+fn serve_script(alloc: Global, script: Script) -> Result<Items<Transcript>, Memory>
+    requires few { request_count script ≤ script_limit }
+    requires alone { length script ≤ 1 }
+    ensures { IfOk result (IsServed script) }
+{
+    let mut transcripts = Items::new(alloc);
+    let mut sessions = script.into_sessions();
+    let Some((number, requests)) = sessions.pop() else {
+        return Ok(transcripts);
+    };
+    transcripts.push(serve_opening(alloc, number, requests)?)?;
+    Ok(transcripts)
+}
+
+// The text about a line that breaks the grammar.
+fn line_text(alloc: Global, line: u64) -> Result<String, AllocError>
+    ensures { IfOk result (λ text. string_bytes text ≡ bad_line_text line) }
+{
+    format!(in alloc; "script {line}\n")
+}
+
+// Says that the words are no command.
+fn say_usage<W: Sink>(sink: &mut W) -> Ending
+    ensures { SaysUsage (W.written sink.old) (W.written sink.new) (W.faults sink.old) (W.faults sink.new) result }
+{
+    match write_all(sink, b"usage\n") {
+        Ok(()) => Ending::Usage,
+        Err(_) => Ending::UsageUnwritten,
+    }
+}
+
+// Says that a line of the script breaks the grammar.
+fn say_line<W: Sink>(alloc: Global, sink: &mut W, line: u64) -> Ending
+    ensures { SaysLine (W.written sink.old) (W.written sink.new) (W.faults sink.old) (W.faults sink.new) line result }
+{
+    let Ok(text) = line_text(alloc, line) else {
+        return Ending::OutOfMemory;
+    };
+    match write_all(sink, text.as_bytes()) {
+        Ok(()) => Ending::Malformed(line),
+        Err(_) => Ending::LineUnwritten(line),
+    }
+}
+
+// Serves the script, and writes the transcript.
+fn run_script<W: Sink>(alloc: Global, sink: &mut W, script: Script) -> (Ending, Run)
+    requires few { request_count script ≤ script_limit }
+    requires alone { length script ≤ 1 }
+    ensures { RunsScript script (W.written sink.old) (W.written sink.new) (W.faults sink.old) (W.faults sink.new) result.0 result.1 }
+{
+    let Ok(sessions) = serve_script(alloc, script) else {
+        return (Ending::OutOfMemory, Run::empty(alloc));
+    };
+    let Ok(text) = transcript(alloc, sessions.as_slice()) else {
+        return (Ending::OutOfMemory, Run::empty(alloc));
+    };
+    let run = Run {
+        base: OPENING_STAMP,
+        sessions,
+        background: Items::new(alloc),
+        clock: 0,
+        own: 0,
+        objects: 0,
+        versions: 0,
+        pending: 0,
+        regions: Items::new(alloc),
+    };
+    match write_all(sink, text.as_slice()) {
+        Ok(()) => (Ending::Done, run),
+        Err(_) => (Ending::TextUnwritten, run),
+    }
+}
+
+// How the command ends that the words name, and its run.
+fn command<R: Source, W: Sink>(
+    alloc: Global,
+    words: &[String],
+    source: &mut R,
+    sink: &mut W,
+) -> (Ending, Run)
+    ensures { Ends words.now (record {
+      script = R.left source.old;
+      old = W.written sink.old;
+      new = W.written sink.new;
+      source_old = R.faults source.old;
+      source_new = R.faults source.new;
+      sink_old = W.faults sink.old;
+      sink_new = W.faults sink.new;
+    }) result.0 result.1 }
+{
+    if !is_run(words) {
+        return (say_usage(sink), Run::empty(alloc));
+    }
+    match script_in(alloc, source) {
+        Ok(script) => run_script(alloc, sink, script),
+        Err(RequestFault::Failed) => (Ending::Unread, Run::empty(alloc)),
+        Err(RequestFault::Memory) => (Ending::OutOfMemory, Run::empty(alloc)),
+        Err(RequestFault::Line(line)) => (say_line(alloc, sink, line), Run::empty(alloc)),
+    }
+}
+
+/// Does all that the program does: reads the script that the source holds, serves its sessions from the graph that a
+/// database begins with, and writes the transcript. `words` are the words behind the program's name. The store is not
+/// touched, and the gate is not passed.
+///
+/// The status is 0 where the whole transcript is written; 2 where the words are no command, with `usage` written; 3
+/// where a read failed, with nothing written; 8 where a line of the script breaks the grammar or the script is longer
+/// than 33,554,432 bytes, with `script L` written, L the first such line from 1 or 0 for the size; 4 where a write failed
+/// or the sink took nothing of some bytes; 6 for want of memory.
+pub fn a1<T: Wait, R: Source, W: Sink, S: Store, G: Gate>(
+    _rt: &T,
+    alloc: Global,
+    words: &[String],
+    source: &mut R,
+    sink: &mut W,
+    store: &mut S,
+    _gate: &G,
+) -> Outcome
+    // It ends in one of the ways of the table.
+    ensures ends { (e : Ending) × ((result.status ≡ status_of e) × Ends words.now (record {
+      script = R.left source.old;
+      old = W.written sink.old;
+      new = W.written sink.new;
+      source_old = R.faults source.old;
+      source_new = R.faults source.new;
+      sink_old = W.faults sink.old;
+      sink_new = W.faults sink.new;
+    }) e result.run) }
+
+    // The transcript is that of the script, from the opening graph at its stamp on; or there is no run.
+    ensures transcript { result.status ≡ 0 → IsRunOf (R.left source.old) result.run }
+    ensures run_or_none { IsRunOf (R.left source.old) result.run ⊎ (result.run ≡ empty_run) }
+    ensures no_run { ((result.status ≡ 2) ⊎ (result.status ≡ 3) ⊎ (result.status ≡ 8)) → result.run ≡ empty_run }
+
+    // The requests answered as committed form, in the order of their stamps, one legal history.
+    ensures legal_history { IsLegalRun result.run }
+
+    // What is written.
+    ensures written { result.status ≡ 0 → W.written sink.new ≡ append_known (W.written sink.old) (text_of result.run.sessions) }
+    ensures usage_written { result.status ≡ 2 → W.written sink.new ≡ append_known (W.written sink.old) usage_text }
+    ensures nothing_written { result.status ≡ 3 → W.written sink.new ≡ W.written sink.old }
+    ensures line_written { result.status ≡ 8 → (line : ℕ) × (IsBadAt (R.left source.old) line × (W.written sink.new ≡ append_known (W.written sink.old) (bad_line_text line))) }
+
+    // Each fault has its cause.
+    ensures usage { result.status ≡ 2 → is_run words.now ≡ false }
+    ensures unread { result.status ≡ 3 → Rose (R.faults source.old) (R.faults source.new) }
+    ensures unwritten { result.status ≡ 4 → Rose (W.faults sink.old) (W.faults sink.new) }
+
+    ensures store { S.items store.new ≡ S.items store.old }
+{
+    let (ending, run) = command(alloc, words, source, sink);
+    Outcome {
+        status: ending.status(),
+        run,
+    }
+}
