@@ -1,5 +1,5 @@
 -- How a command ends: its status, its run, what it writes, and why.
-use Rattle.std.specs.Prelude.{◌≡◌, ℕ, List, [], ◌∷◌, ◌++◌, map, Bool, true, false, Option, Err, IfSome, codes, decimal, String, string_bytes}
+use Rattle.std.specs.Prelude.{◌≡◌, ℕ, List, [], ◌∷◌, ◌++◌, map, Bool, true, false, Option, Some, Err, IfSome, codes, decimal, String, string_bytes}
 use Rattle.std.specs.declared.alloc.Global.{Global}
 use Rattle.std.specs.Str.{bytes_eq}
 use Rattle.std.specs.Io.KnownBytes.{append_known}
@@ -52,10 +52,11 @@ pub record IsRunOf (script : Option (List ℕ)) (run : Run) : Type 0 where
 
 -- ---- the table of endings
 
--- what is seen of the source and the sink: what the source held, what was written before and after, and the counts of
--- faults before and after
+-- what is seen of the source and the sink: what the source held and what it has left, what was written before and after,
+-- and the counts of faults before and after
 pub record Outside : Type 0 where
   pub script : Option (List ℕ)
+  pub left : Option (List ℕ)
   pub old : Option (List ℕ)
   pub new : Option (List ℕ)
   pub source_old : ℕ
@@ -85,9 +86,13 @@ IsWritten o text = o.new ≡ append_known o.old text
 abbrev pub IsCutShort : Outside → List ℕ → Type 0
 IsCutShort o text = WritesFront o.old o.new text × Rose o.sink_old o.sink_new
 
+-- the source is read to its end
+abbrev pub IsReadWhole : Outside → Type 0
+IsReadWhole o = IfSome o.script (λ bytes. o.left ≡ Some [])
+
 -- how a command may end: why, with which run, and what is written
 abbrev pub Ends : List (String Global) → Outside → Ending → Run → Type 0
-Ends words o Done run = (is_run words ≡ true) × IsRunOf o.script run × IsWritten o (text_of run.sessions)
+Ends words o Done run = (is_run words ≡ true) × IsRunOf o.script run × IsWritten o (text_of run.sessions) × IsReadWhole o
 Ends words o TextUnwritten run = (is_run words ≡ true) × IsRunOf o.script run × IsCutShort o (text_of run.sessions)
 Ends words o Usage run = (is_run words ≡ false) × (run ≡ empty_run) × IsWritten o usage_text
 Ends words o UsageUnwritten run = (is_run words ≡ false) × (run ≡ empty_run) × IsCutShort o usage_text

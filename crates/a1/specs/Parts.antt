@@ -13,14 +13,14 @@ use Rattle.a1.specs.Streams.{WritesFront}
 use Rattle.a1.specs.Outcome.{opening_stamp, usage_text, bad_line_text, IsBadAt}
 use Rattle.a1.specs.declared.outcome.Ending.{Ending}
 use Rattle.a1.specs.declared.outcome.Ending.TheVariants.{Done, Usage, UsageUnwritten, LineUnwritten, TextUnwritten, OutOfMemory, Malformed}
-use Rattle.a1.specs.declared.top.RequestFault.{RequestFault}
-use Rattle.a1.specs.declared.top.RequestFault.TheVariants as request
+use Rattle.a1.specs.declared.top.InputFault.{InputFault}
+use Rattle.a1.specs.declared.top.InputFault.TheVariants as input
 
 -- what keeps the script from being read
-abbrev pub IsRequestFault : Option (List ℕ) → ℕ → ℕ → RequestFault → Type 0
-IsRequestFault script before now request.Failed = Rose before now
-IsRequestFault script before now (request.Line line) = IsBadAt script line
-IsRequestFault script before now request.Memory = ⊤
+abbrev pub IsInputFault : Option (List ℕ) → ℕ → ℕ → InputFault → Type 0
+IsInputFault script before now input.Failed = Rose before now
+IsInputFault script before now (input.Line line) = IsBadAt script line
+IsInputFault script before now input.Memory = ⊤
 
 -- the transcript of these sessions
 pub record IsServed (script : List (ℕ × List (List ℕ))) (sessions : List Transcript) : Type 0 where

@@ -8,10 +8,9 @@ mod edge;
 mod outcome;
 mod store;
 mod streams;
+#[cfg(test)]
+mod tests;
 mod top;
-
-
-
 
 use a1_base::NoGate;
 use edge::{StdinSource, StdoutSink};

@@ -8,7 +8,7 @@ ghost use Rattle.answer_text.specs.Legal.{IsLegal};
 ghost use Rattle.run_text.specs.Script.{script_of, script_limit, request_count, asked_in};
 ghost use Rattle.run_text.specs.Run.{empty_run};
 ghost use Rattle.a1.specs.Outcome.{is_run, opening_stamp, usage_text, bad_line_text, status_of, IsRunOf, IsLegalRun, IsBadAt, Ends};
-ghost use Rattle.a1.specs.Parts.{IsRequestFault, IsServed, SaysUsage, SaysLine, RunsScript};
+ghost use Rattle.a1.specs.Parts.{IsInputFault, IsServed, SaysUsage, SaysLine, RunsScript};
 ghost use Rattle.a1.specs.declared.outcome.Ending.{Ending};
 
 use crate::outcome::{Ending, Outcome};
@@ -27,7 +27,7 @@ const OPENING_STAMP: u64 = 1;
 
 /// Why there is no script to serve.
 #[derive(Clone, Copy)]
-pub enum RequestFault {
+pub enum InputFault {
     /// The source failed.
     Failed,
     /// This line breaks the grammar; 0 where the script is too long.
@@ -48,21 +48,21 @@ fn is_run(words: &[String]) -> bool
 
 // The script that the source holds.
 #[tactic(auto, using(crate::proofs::TopLemmas::long_script))]
-fn script_in<R: Source>(alloc: Global, source: &mut R) -> Result<Script, RequestFault>
+fn script_in<R: Source>(alloc: Global, source: &mut R) -> Result<Script, InputFault>
     ensures ok { IfOk result (λ script. IfSome (R.left source.old) (λ bytes. script_of bytes ≡ Ok script)) }
     ensures few { IfOk result (λ script. request_count script ≤ script_limit) }
     ensures alone { IfOk result (λ script. length script ≤ 1) }
     ensures end { IfOk result (λ script. IfSome (R.left source.old) (λ bytes. R.left source.new ≡ Some [])) }
-    ensures fault { IfErr result (IsRequestFault (R.left source.old) (R.faults source.old) (R.faults source.new)) }
+    ensures fault { IfErr result (IsInputFault (R.left source.old) (R.faults source.old) (R.faults source.new)) }
 {
     match read_all(alloc, source) {
-        Err(ReadFault::Failed) => Err(RequestFault::Failed),
-        Err(ReadFault::Memory) => Err(RequestFault::Memory),
-        Ok(Input::TooLong) => Err(RequestFault::Line(0)),
+        Err(ReadFault::Failed) => Err(InputFault::Failed),
+        Err(ReadFault::Memory) => Err(InputFault::Memory),
+        Ok(Input::TooLong) => Err(InputFault::Line(0)),
         Ok(Input::Whole(bytes)) => match run_text::read(alloc, bytes.as_slice()) {
             Ok(script) => Ok(script),
-            Err(ScriptFault::Line(line)) => Err(RequestFault::Line(line)),
-            Err(ScriptFault::Memory) => Err(RequestFault::Memory),
+            Err(ScriptFault::Line(line)) => Err(InputFault::Line(line)),
+            Err(ScriptFault::Memory) => Err(InputFault::Memory),
         },
     }
 }
@@ -161,6 +161,7 @@ fn command<R: Source, W: Sink>(
 ) -> (Ending, Run)
     ensures { Ends words.now (record {
       script = R.left source.old;
+      left = R.left source.new;
       old = W.written sink.old;
       new = W.written sink.new;
       source_old = R.faults source.old;
@@ -174,9 +175,9 @@ fn command<R: Source, W: Sink>(
     }
     match script_in(alloc, source) {
         Ok(script) => run_script(alloc, sink, script),
-        Err(RequestFault::Failed) => (Ending::Unread, Run::empty(alloc)),
-        Err(RequestFault::Memory) => (Ending::OutOfMemory, Run::empty(alloc)),
-        Err(RequestFault::Line(line)) => (say_line(alloc, sink, line), Run::empty(alloc)),
+        Err(InputFault::Failed) => (Ending::Unread, Run::empty(alloc)),
+        Err(InputFault::Memory) => (Ending::OutOfMemory, Run::empty(alloc)),
+        Err(InputFault::Line(line)) => (say_line(alloc, sink, line), Run::empty(alloc)),
     }
 }
 
@@ -200,6 +201,7 @@ pub fn a1<T: Wait, R: Source, W: Sink, S: Store, G: Gate>(
     // It ends in one of the ways of the table.
     ensures ends { (e : Ending) × ((result.status ≡ status_of e) × Ends words.now (record {
       script = R.left source.old;
+      left = R.left source.new;
       old = W.written sink.old;
       new = W.written sink.new;
       source_old = R.faults source.old;
@@ -216,7 +218,8 @@ pub fn a1<T: Wait, R: Source, W: Sink, S: Store, G: Gate>(
     // The requests answered as committed form, in the order of their stamps, one legal history.
     ensures legal_history { IsLegalRun result.run }
 
-    // What is written.
+    // What is read and written.
+    ensures read_whole { result.status ≡ 0 → IfSome (R.left source.old) (λ bytes. R.left source.new ≡ Some []) }
     ensures written { result.status ≡ 0 → W.written sink.new ≡ append_known (W.written sink.old) (text_of result.run.sessions) }
     ensures usage_written { result.status ≡ 2 → W.written sink.new ≡ append_known (W.written sink.old) usage_text }
     ensures nothing_written { result.status ≡ 3 → W.written sink.new ≡ W.written sink.old }

@@ -1,8 +1,8 @@
 -- Looking into a tree.
 use Rattle.std.specs.Prelude.{ℕ, List, [], ◌∷◌, length, ◌==◌, Option, Some, None, if◌then◌else◌}
 use Rattle.std.specs.Str.{bytes_eq}
-use Rattle.a1_json.specs.declared.Json.{Json, out-Json}
-use Rattle.a1_json.specs.declared.Json.TheOpen.{Json-F}
+use Rattle.a1_json.specs.declared.tree.Json.{Json, out-Json}
+use Rattle.a1_json.specs.declared.tree.Json.TheOpen.{Json-F}
 
 -- the value of the first member of this name
 abbrev pub named_in : List ℕ → List (List ℕ × Json) → Option Json

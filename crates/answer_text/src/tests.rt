@@ -24,7 +24,8 @@ fn a_row_is_printed_by_name(rt: HostRuntime) -> Result<(), Fail> {
         at: 18_446_744_073_709_551_615,
         rows,
     };
-    let wanted: &str = "{\"at\":18446744073709551615,\"rows\":[{\"id\":\"a\\\"b\",\"key\":\"00ff\",\"n\":-7}]}";
+    let wanted: &str =
+        "{\"at\":18446744073709551615,\"rows\":[{\"id\":\"a\\\"b\",\"key\":\"00ff\",\"n\":-7}]}";
     let printed = text(alloc, &reply).expect(&rt, "ample memory");
     assert!(rt; printed.as_slice() == wanted.as_bytes());
     Ok(())

@@ -1,8 +1,8 @@
 -- What a line asks for, read over its JSON tree.
 use Rattle.std.specs.Prelude.{◌≡◌, ℕ, ◌&&◌, List, length, Bool, true, false, nat_le, if◌then◌else◌, Option, Some, None, option_and_then, Result, Ok, Err, codes, ⊤}
 use Rattle.std.specs.Str.{bytes_eq}
-use Rattle.a1_json.specs.declared.Json.{Json}
-use Rattle.a1_json.specs.declared.JsonFault.{JsonFault}
+use Rattle.a1_json.specs.declared.tree.Json.{Json}
+use Rattle.a1_json.specs.declared.tree.JsonFault.{JsonFault}
 use Rattle.a1_json.specs.Tree.{json_of}
 use Rattle.a1_json.specs.Fields.{member_of, item_of, text_of}
 use Rattle.request_reader.specs.declared.request.Request.{Request}

@@ -12,4 +12,4 @@ mod request;
 pub use answer::{Answer, Row};
 pub use reading::read;
 pub use refusal::{Refusal, Word};
-pub use request::{BadWord, NAMES_GRAPH, NAME_TYPE, Request, RequestFault};
+pub use request::{BadWord, NAME_TYPE, NAMES_GRAPH, Request, RequestFault};

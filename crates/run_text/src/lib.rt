@@ -13,4 +13,3 @@ pub use answer_text::{Line, Reply, Transcript};
 pub use printing::transcript;
 pub use run::{Commit2, Run};
 pub use script::{Script, ScriptFault, read};
-

@@ -64,7 +64,9 @@ pub fn read(alloc: Global, bytes: &[u8]) -> Result<Script, ScriptFault>
     let requests = read_requests(alloc, bytes)?;
     let mut sessions = Vec::new(alloc);
     if !requests.is_empty() {
-        sessions.push((1, requests)).map_err(|_| ScriptFault::Memory)?;
+        sessions
+            .push((1, requests))
+            .map_err(|_| ScriptFault::Memory)?;
     }
     Ok(Script { sessions })
 }

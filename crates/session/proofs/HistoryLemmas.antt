@@ -156,8 +156,8 @@ told_last : (base clock : ℕ) (lines : List Line) (line : Line) → AllByRecurs
     → (j : ℕ) (l : Line) → slice_get (lines ++ line ∷ []) j ≡ Some l → ComesAfter base (IsPrintedBefore (lines ++ line ∷ []) j) l.reply
 told_last base clock lines line low told comes j l e =
     elim (there_or_last lines line l j e) [
-      inl p ↦ fewer base (IsPrintedBefore lines j) (IsPrintedBefore (lines ++ line ∷ []) j) (λ s q. same_told lines line j s (omega (arith, p.0)) q) l.reply (told j l p.1) |
-      inr p ↦ fewer base (λ s. s ≤ clock) (IsPrintedBefore (lines ++ line ∷ []) j) (λ s q. told_low clock lines j s low (same_told lines line j s (omega (arith, p.0)) q)) l.reply (subst (λ (x : Line). ComesAfter base (λ s. s ≤ clock) x.reply) (sym p.1) comes)
+      | inl p ↦ fewer base (IsPrintedBefore lines j) (IsPrintedBefore (lines ++ line ∷ []) j) (λ s q. same_told lines line j s (omega (arith, p.0)) q) l.reply (told j l p.1)
+      | inr p ↦ fewer base (λ s. s ≤ clock) (IsPrintedBefore (lines ++ line ∷ []) j) (λ s q. told_low clock lines j s low (same_told lines line j s (omega (arith, p.0)) q)) l.reply (subst (λ (x : Line). ComesAfter base (λ s. s ≤ clock) x.reply) (sym p.1) comes)
     ]
 
 -- ---- answers

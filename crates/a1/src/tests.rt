@@ -1,0 +1,218 @@
+//! The worked examples, over a source, a sink and a store in memory.
+use crate::outcome::Outcome;
+use crate::store::MemStore;
+use crate::top::a1;
+use a1_base::{Bin, MemSink, MemSource, NoGate, SCRIPT_LIMIT};
+use std::alloc::{AllocError, Global};
+use std::sync::Wait;
+use std::test::Fail;
+
+const PUT_ANN: &str =
+    "1 {\"do\":[{\"put\":{\"graph\":\"sys/names\",\"type\":\"name\",\"v\":{\"id\":\"ann\"}}}]}\n";
+
+const PUT_BOB: &str =
+    "1 {\"do\":[{\"put\":{\"graph\":\"sys/names\",\"type\":\"name\",\"v\":{\"id\":\"bob\"}}}]}\n";
+
+const ASK_ANN: &str = "1 {\"ask\":{\"_type\":\"name\",\"id\":\"ann\"},\"graph\":\"sys/names\"}\n";
+
+// A call of the program: its words, the pieces of its script, and which read and which write fail, 0 for none.
+struct Call<'a> {
+    words: &'a [&'a str],
+    script: &'a [&'a str],
+    failing_read: u64,
+    failing_write: u64,
+}
+
+// A call and what it must answer.
+struct Case<'a> {
+    call: Call<'a>,
+    status: u8,
+    text: &'a str,
+}
+
+fn running<'a>(script: &'a [&'a str], status: u8, text: &'a str) -> Case<'a> {
+    Case {
+        call: Call {
+            words: &["run"],
+            script,
+            failing_read: 0,
+            failing_write: 0,
+        },
+        status,
+        text,
+    }
+}
+
+fn strings(alloc: Global, words: &[&str]) -> Result<Vec<String>, AllocError> {
+    let mut strings = Vec::new(alloc);
+    for word in words {
+        strings.push(String::from_str(alloc, word)?)?;
+    }
+    Ok(strings)
+}
+
+fn joined(alloc: Global, pieces: &[&str]) -> Result<Bin, AllocError> {
+    let mut bytes = Bin::new(alloc);
+    for piece in pieces {
+        bytes.append(piece.as_bytes())?;
+    }
+    Ok(bytes)
+}
+
+fn numbers(alloc: Global, number: u64) -> Result<Vec<u64>, AllocError> {
+    if number == 0 {
+        Ok(Vec::new(alloc))
+    } else {
+        vec![in alloc; number]
+    }
+}
+
+// What the call answers, and what it writes.
+fn outcome_of<T: Wait>(
+    rt: &T,
+    alloc: Global,
+    call: &Call,
+) -> Result<(Outcome, Vec<u8>), AllocError> {
+    let words = strings(alloc, call.words)?;
+    let script = joined(alloc, call.script)?;
+    let mut source = MemSource::new(script, numbers(alloc, call.failing_read)?);
+    let mut sink = MemSink::new(alloc, numbers(alloc, call.failing_write)?);
+    let mut store = MemStore::new(Vec::new(alloc), Vec::new(alloc));
+    let outcome = a1(
+        rt,
+        alloc,
+        &words,
+        &mut source,
+        &mut sink,
+        &mut store,
+        &NoGate,
+    );
+    Ok((outcome, sink.bytes().to_vec(alloc)?))
+}
+
+#[test]
+fn worked_examples(rt: HostRuntime) -> Result<(), Fail> {
+    let cases = [
+        running(&[], 0, ""),
+        running(
+            &[PUT_ANN, ASK_ANN],
+            0,
+            "1 {\"ok\":2}\n1 {\"at\":2,\"rows\":[{\"id\":\"ann\"}]}\n",
+        ),
+        running(
+            &[PUT_ANN, ASK_ANN, PUT_ANN, PUT_BOB],
+            0,
+            "1 {\"ok\":2}\n1 {\"at\":2,\"rows\":[{\"id\":\"ann\"}]}\n1 {\"at\":2,\"refused\":\"key_taken\"}\n1 {\"ok\":3}\n",
+        ),
+        running(&[ASK_ANN], 0, "1 {\"at\":1,\"rows\":[]}\n"),
+        running(&["1 hello\n"], 0, "1 {\"bad\":\"not_built\"}\n"),
+        running(
+            &["\n1 \n\n1 {}"],
+            0,
+            "1 {\"bad\":\"not_built\"}\n1 {\"bad\":\"not_built\"}\n",
+        ),
+    ];
+    for case in &cases {
+        let (outcome, text) = outcome_of(&rt, rt.alloc(), &case.call)?;
+        assert_eq!(rt; outcome.status, case.status, "{:?}", case.text);
+        assert!(rt; text.as_slice() == case.text.as_bytes(), "{:?}", case.text);
+    }
+    Ok(())
+}
+
+#[test]
+fn bad_input(rt: HostRuntime) -> Result<(), Fail> {
+    let cases = [
+        running(&["2 {}\n"], 8, "script 1\n"),
+        running(&["33 {}\n"], 8, "script 1\n"),
+        running(&["\n", PUT_ANN, "\n1\n"], 8, "script 4\n"),
+        running(&["01 {}\n"], 8, "script 1\n"),
+        running(&["\r\n"], 8, "script 1\n"),
+        Case {
+            call: Call {
+                words: &["run", "x"],
+                script: &[PUT_ANN],
+                failing_read: 0,
+                failing_write: 0,
+            },
+            status: 2,
+            text: "usage\n",
+        },
+        Case {
+            call: Call {
+                words: &[],
+                script: &[],
+                failing_read: 0,
+                failing_write: 1,
+            },
+            status: 4,
+            text: "",
+        },
+        Case {
+            call: Call {
+                words: &["run"],
+                script: &[PUT_ANN],
+                failing_read: 2,
+                failing_write: 0,
+            },
+            status: 3,
+            text: "",
+        },
+        Case {
+            call: Call {
+                words: &["run"],
+                script: &[PUT_ANN],
+                failing_read: 0,
+                failing_write: 1,
+            },
+            status: 4,
+            text: "",
+        },
+    ];
+    for case in &cases {
+        let (outcome, text) = outcome_of(&rt, rt.alloc(), &case.call)?;
+        assert_eq!(rt; outcome.status, case.status, "{:?}", case.text);
+        assert!(rt; text.as_slice() == case.text.as_bytes(), "{:?}", case.text);
+    }
+    Ok(())
+}
+
+#[test]
+fn a_run_has_its_sessions(rt: HostRuntime) -> Result<(), Fail> {
+    let case = running(&[PUT_ANN, ASK_ANN], 0, "");
+    let (outcome, _) = outcome_of(&rt, rt.alloc(), &case.call)?;
+    assert_eq!(rt; outcome.run.base, 1);
+    assert_eq!(rt; outcome.run.sessions.len(), 1);
+    let transcript = outcome.run.sessions.get(0).ok_or("a session")?;
+    assert_eq!(rt; transcript.session, 1);
+    assert_eq!(rt; transcript.lines.len(), 2);
+    assert!(rt; outcome.run.background.is_empty());
+    Ok(())
+}
+
+#[test]
+fn a_script_has_its_limit(rt: HostRuntime) -> Result<(), Fail> {
+    let alloc = rt.alloc();
+    for (length, status, text) in [
+        (SCRIPT_LIMIT, 0, "".as_bytes()),
+        (SCRIPT_LIMIT + 1, 8, "script 0\n".as_bytes()),
+    ] {
+        let words = strings(alloc, &["run"])?;
+        let script = Bin::from_vec(vec![in alloc; b'\n'; length]?);
+        let mut source = MemSource::new(script, Vec::new(alloc));
+        let mut sink = MemSink::new(alloc, Vec::new(alloc));
+        let mut store = MemStore::new(Vec::new(alloc), Vec::new(alloc));
+        let outcome = a1(
+            &rt,
+            alloc,
+            &words,
+            &mut source,
+            &mut sink,
+            &mut store,
+            &NoGate,
+        );
+        assert_eq!(rt; outcome.status, status);
+        assert!(rt; sink.bytes() == text);
+    }
+    Ok(())
+}
