@@ -2,7 +2,7 @@
 use crate::outcome::Outcome;
 use crate::store::MemStore;
 use crate::top::a1;
-use a1_base::{Bin, MemSink, MemSource, NoGate, SCRIPT_LIMIT};
+use a1_base::{Bin, MemSink, MemSource, NoGate};
 use std::alloc::{AllocError, Global};
 use std::sync::Wait;
 use std::test::Fail;
@@ -16,6 +16,7 @@ const PUT_BOB: &str =
 const ASK_ANN: &str = "1 {\"ask\":{\"_type\":\"name\",\"id\":\"ann\"},\"graph\":\"sys/names\"}\n";
 
 // A call of the program: its words, the pieces of its script, and which read and which write fail, 0 for none.
+#[derive(Clone, Copy)]
 struct Call<'a> {
     words: &'a [&'a str],
     script: &'a [&'a str],
@@ -24,6 +25,7 @@ struct Call<'a> {
 }
 
 // A call and what it must answer.
+#[derive(Clone, Copy)]
 struct Case<'a> {
     call: Call<'a>,
     status: u8,
@@ -63,7 +65,7 @@ fn numbers(alloc: Global, number: u64) -> Result<Vec<u64>, AllocError> {
     if number == 0 {
         Ok(Vec::new(alloc))
     } else {
-        vec![in alloc; number]
+        Ok(vec![in alloc; number]?)
     }
 }
 
@@ -187,32 +189,5 @@ fn a_run_has_its_sessions(rt: HostRuntime) -> Result<(), Fail> {
     assert_eq!(rt; transcript.session, 1);
     assert_eq!(rt; transcript.lines.len(), 2);
     assert!(rt; outcome.run.background.is_empty());
-    Ok(())
-}
-
-#[test]
-fn a_script_has_its_limit(rt: HostRuntime) -> Result<(), Fail> {
-    let alloc = rt.alloc();
-    for (length, status, text) in [
-        (SCRIPT_LIMIT, 0, "".as_bytes()),
-        (SCRIPT_LIMIT + 1, 8, "script 0\n".as_bytes()),
-    ] {
-        let words = strings(alloc, &["run"])?;
-        let script = Bin::from_vec(vec![in alloc; b'\n'; length]?);
-        let mut source = MemSource::new(script, Vec::new(alloc));
-        let mut sink = MemSink::new(alloc, Vec::new(alloc));
-        let mut store = MemStore::new(Vec::new(alloc), Vec::new(alloc));
-        let outcome = a1(
-            &rt,
-            alloc,
-            &words,
-            &mut source,
-            &mut sink,
-            &mut store,
-            &NoGate,
-        );
-        assert_eq!(rt; outcome.status, status);
-        assert!(rt; sink.bytes() == text);
-    }
     Ok(())
 }
