@@ -1,5 +1,6 @@
 //! Where items are kept.
-ghost use Rattle.std.specs.Prelude.{◌≡◌, ℕ, List, Option, Some};
+ghost use Rattle.std.specs.Prelude.{◌≡◌, ℕ, List, Option, Some, OnErr};
+ghost use Rattle.a1_base.specs.InMemory.{next_number, fails_at};
 ghost use Rattle.a1.specs.Stored.{PutAdds, GetGives, PutsWithCause, GetsWithCause};
 
 use a1_base::Bin;
@@ -43,10 +44,13 @@ pub struct MemStore {
 }
 
 impl MemStore {
-    ghost use Rattle.a1.specs.MemStore.{items_of};
+    ghost use Rattle.a1.specs.MemStore.{items_of, calls_made, failing_calls, store_faults};
 
     pub fn new(items: Vec<Bin>, fails: Vec<u64>) -> MemStore
-        ensures { items_of result ≡ items.items }
+        ensures items { items_of result ≡ items.items }
+        ensures calls { calls_made result ≡ 0 }
+        ensures fails { failing_calls result ≡ fails.items }
+        ensures faults { store_faults result ≡ 0 }
     {
         MemStore {
             items,
@@ -65,13 +69,22 @@ impl MemStore {
 }
 
 impl Store for MemStore {
-    ghost use Rattle.a1.specs.MemStore.{items_of};
+    ghost use Rattle.a1.specs.MemStore.{items_of, calls_made, failing_calls, store_faults, IsMiss};
 
     ghost items = { λ s. Some (items_of s) };
 
-    ghost faults = { λ s. s.faults };
+    ghost faults = { λ s. store_faults s };
 
-    fn put(&mut self, item: &[u8]) -> Result<(), StoreMiss> {
+    fn put(&mut self, item: &[u8]) -> Result<(), StoreMiss>
+        ensures items { PutAdds (Some (items_of self.old)) (Some (items_of self.new)) item.now result }
+        ensures cause { PutsWithCause (store_faults self.old) (store_faults self.new) result }
+
+        // It fails exactly where it was told to, and then puts nothing.
+        ensures fails { IsMiss result (fails_at (failing_calls self.old) (next_number (calls_made self.old))) }
+        ensures err { OnErr result (items_of self.new ≡ items_of self.old) }
+        ensures calls { calls_made self.new ≡ next_number (calls_made self.old) }
+        ensures told { failing_calls self.new ≡ failing_calls self.old }
+    {
         self.calls = self.calls.saturating_add(1);
         if self.fails.contains(&self.calls) {
             self.faults = self.faults.saturating_add(1);
@@ -86,7 +99,16 @@ impl Store for MemStore {
         }
     }
 
-    fn get(&mut self, index: u64) -> Result<Option<Bin>, StoreMiss> {
+    fn get(&mut self, index: u64) -> Result<Option<Bin>, StoreMiss>
+        ensures item { GetGives (Some (items_of self.old)) index result }
+        ensures same { Some (items_of self.new) ≡ Some (items_of self.old) }
+        ensures cause { GetsWithCause (store_faults self.old) (store_faults self.new) result }
+
+        // It fails exactly where it was told to.
+        ensures fails { IsMiss result (fails_at (failing_calls self.old) (next_number (calls_made self.old))) }
+        ensures calls { calls_made self.new ≡ next_number (calls_made self.old) }
+        ensures told { failing_calls self.new ≡ failing_calls self.old }
+    {
         self.calls = self.calls.saturating_add(1);
         if self.fails.contains(&self.calls) {
             self.faults = self.faults.saturating_add(1);

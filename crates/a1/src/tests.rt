@@ -191,3 +191,28 @@ fn a_run_has_its_sessions(rt: HostRuntime) -> Result<(), Fail> {
     assert!(rt; outcome.run.background.is_empty());
     Ok(())
 }
+
+#[test]
+fn the_store_is_not_touched(rt: HostRuntime) -> Result<(), Fail> {
+    let alloc = rt.alloc();
+    let words = strings(alloc, &["run"])?;
+    let mut source = MemSource::new(joined(alloc, &[PUT_ANN])?, Vec::new(alloc));
+    let mut sink = MemSink::new(alloc, Vec::new(alloc));
+    let mut items = Vec::new(alloc);
+    items.push(Bin::from_slice(alloc, b"C")?)?;
+    let mut store = MemStore::new(items, numbers(alloc, 1)?);
+    let outcome = a1(
+        &rt,
+        alloc,
+        &words,
+        &mut source,
+        &mut sink,
+        &mut store,
+        &NoGate,
+    );
+    assert_eq!(rt; outcome.status, 0);
+    assert_eq!(rt; store.items().len(), 1);
+    let item = store.items().first().ok_or("an item")?;
+    assert!(rt; item.as_slice() == b"C".as_slice());
+    Ok(())
+}

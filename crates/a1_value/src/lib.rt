@@ -7,5 +7,5 @@
 mod order;
 mod value;
 
-pub use order::{compare, compare_bytes};
+pub use order::compare;
 pub use value::Value;

@@ -5,8 +5,8 @@ ghost use Rattle.a1_value.specs.Order.{byte_order, value_order};
 use crate::Value;
 use std::cmp::Ordering;
 
-/// Compares two lists of bytes by their bytes, the shorter first where one begins with the other.
-pub fn compare_bytes(a: &[u8], b: &[u8]) -> Ordering
+// Compares two lists of bytes by their bytes, the shorter first where one begins with the other.
+fn compare_bytes(a: &[u8], b: &[u8]) -> Ordering
     ensures { result ≡ byte_order a.now b.now }
 {
     a.cmp(b)

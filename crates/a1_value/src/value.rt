@@ -1,3 +1,4 @@
+//! Values.
 use a1_base::{Bin, Txt};
 
 /// A value of an attribute, and a key.

@@ -1,5 +1,5 @@
 -- What a transcript says: its text, its commits, the graph at a stamp, and what each session was told.
-use Rattle.std.specs.Prelude.{◌≡◌, ℕ, ◌<◌, List, [], ◌∷◌, ◌++◌, Contains, nat_le, if◌then◌else◌, filter, slice_get, Option, Some, Result, Ok, Err, decimal}
+use Rattle.std.specs.Prelude.{◌≡◌, ℕ, ◌<◌, List, [], ◌∷◌, ◌++◌, Contains, nat_le, if◌then◌else◌, filter, slice_get, Some, Result, Ok, Err, decimal}
 use Rattle.std.specs.List.{flat_map, filter_map}
 use Rattle.request_reader.specs.Graph.{Graph}
 use Rattle.request_reader.specs.Request.{request_of}
@@ -7,7 +7,7 @@ use Rattle.request_reader.specs.Effect.{effect}
 use Rattle.request_reader.specs.declared.refusal.Refusal.{Refusal}
 use Rattle.request_reader.specs.declared.request.BadWord.{BadWord}
 use Rattle.request_reader.specs.declared.request.Request.{Request}
-use Rattle.request_reader.specs.declared.request.Request.TheVariants.{Put, Ask}
+use Rattle.request_reader.specs.declared.request.Request.TheVariants.{Put}
 use Rattle.answer_text.specs.Reply.{reply_text, ok_stamp, printed}
 use Rattle.answer_text.specs.declared.reply.Reply.{Reply}
 use Rattle.answer_text.specs.declared.reply.Reply.TheVariants as reply

@@ -10,7 +10,6 @@ mod transcript;
 
 pub use printing::text;
 pub use reply::Reply;
-pub use request_reader::{Answer, BadWord, Refusal, Row, Word};
 pub use transcript::{Line, Transcript};
 
 #[cfg(test)]

@@ -1,3 +1,4 @@
+//! Replies.
 use request_reader::{BadWord, Refusal, Row};
 use sqlite_items::Items;
 

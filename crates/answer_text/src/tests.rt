@@ -1,7 +1,8 @@
 //! The text of each form of reply.
-use crate::{Reply, Row, text};
+use crate::{Reply, text};
 use a1_base::{Bin, Txt};
 use a1_value::Value;
+use request_reader::Row;
 use sqlite_items::Items;
 use std::test::Fail;
 

@@ -1,3 +1,4 @@
+//! Transcripts.
 use crate::Reply;
 use a1_base::Bin;
 use sqlite_items::Items;

@@ -1,3 +1,4 @@
+//! The graph of names.
 ghost use Rattle.std.specs.Prelude.{◌≡◌, not, IfOk, OnErr, if◌then◌else◌};
 ghost use Rattle.request_reader.specs.Graph.{opening, has_name, with_name};
 
@@ -24,8 +25,8 @@ impl Model for Plain {
 }
 
 impl Plain {
-    #[tactic(auto, using(crate::proofs::NameLemmas::names_ordered))]
     /// The graph that a database begins with: it has no name.
+    #[tactic(auto, using(crate::proofs::NameLemmas::names_ordered))]
     pub fn opening(alloc: Global) -> Result<Plain, Memory>
         ensures { IfOk result (λ plain. plain ≡ opening) }
     {
@@ -34,9 +35,9 @@ impl Plain {
         })
     }
 
-    #[tactic(auto, using(crate::proofs::NameLemmas::name_put, crate::proofs::NameLemmas::names_ordered))]
     /// Puts a name where it is not there yet, and says whether it was put. After `Memory`, which comes for want of
     /// memory alone, the graph is as before.
+    #[tactic(auto, using(crate::proofs::NameLemmas::name_put, crate::proofs::NameLemmas::names_ordered))]
     pub fn put_name(&mut self, alloc: Global, name: &Txt) -> Result<bool, Memory>
         ensures answer { IfOk result (λ put. put ≡ not (has_name self.old name.now)) }
         ensures names { IfOk result (λ put. self.new ≡ (if put then with_name self.old name.now else self.old)) }

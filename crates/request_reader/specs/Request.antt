@@ -1,5 +1,5 @@
 -- What a line asks for, read over its JSON tree.
-use Rattle.std.specs.Prelude.{◌≡◌, ℕ, ◌&&◌, List, length, Bool, true, false, nat_le, if◌then◌else◌, Option, Some, None, option_and_then, Result, Ok, Err, codes, ⊤}
+use Rattle.std.specs.Prelude.{◌≡◌, ℕ, ◌&&◌, List, length, Bool, false, nat_le, if◌then◌else◌, Option, Some, None, option_and_then, Result, Ok, Err, codes, ⊤}
 use Rattle.std.specs.Str.{bytes_eq}
 use Rattle.a1_json.specs.declared.tree.Json.{Json}
 use Rattle.a1_json.specs.declared.tree.JsonFault.{JsonFault}

@@ -1,3 +1,4 @@
+//! What an ask is answered.
 use a1_base::Txt;
 use a1_value::Value;
 use sqlite_items::Items;

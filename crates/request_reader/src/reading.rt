@@ -85,16 +85,10 @@ pub fn read(alloc: Global, line: &[u8]) -> Result<Request, RequestFault>
         Err(_) => return Err(RequestFault::Memory),
     };
     if let Some(name) = name_in_do(&tree) {
-        return match Txt::from_text(alloc, name) {
-            Ok(name) => Ok(Request::Put(name)),
-            Err(_) => Err(RequestFault::Memory),
-        };
+        return Ok(Request::Put(Txt::from_text(alloc, name)?));
     }
     if let Some(name) = name_in_ask(&tree) {
-        return match Txt::from_text(alloc, name) {
-            Ok(name) => Ok(Request::Ask(name)),
-            Err(_) => Err(RequestFault::Memory),
-        };
+        return Ok(Request::Ask(Txt::from_text(alloc, name)?));
     }
     Err(RequestFault::Bad(BadWord::NotBuilt))
 }

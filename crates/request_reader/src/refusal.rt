@@ -1,3 +1,4 @@
+//! Refusals of operations.
 /// Why an operation is refused.
 #[derive(Clone, Copy, Debug, PartialEq, Eq)]
 pub enum Word {

@@ -1,4 +1,6 @@
+//! What a line asks for.
 use a1_base::Txt;
+use std::alloc::AllocError;
 
 /// The graph that names stand in.
 pub const NAMES_GRAPH: &str = "sys/names";
@@ -29,4 +31,15 @@ pub enum RequestFault {
     Bad(BadWord),
     /// Want of memory.
     Memory,
+}
+
+impl From<AllocError> for RequestFault {
+    ghost use Rattle.std.specs.Prelude.{◌≡◌};
+    ghost use Rattle.request_reader.specs.declared.request.RequestFault.TheVariants.{Memory};
+
+    ghost from_gives = { λ _ fault. fault ≡ Memory };
+
+    fn from(_: AllocError) -> Self {
+        RequestFault::Memory
+    }
 }

@@ -1,6 +1,6 @@
 -- Lines of a script.
 use Rattle.std.proofs.Common.{◌≡◌, ◌<◌, ◌≤◌, ◌+◌, ◌-◌, ◌*◌, ℕ, List, [], ◌∷◌, ◌++◌, length, map, Bool, true, false, Result, Ok, Err, Some, None, Option, refl, sym, ap, ◌∙◌, append_assoc, append-nil, arith, if◌then◌else◌}
-use Rattle.std.specs.Prelude.{◌==◌, ◌&&◌, nat_lt, nat_le, option_and_then}
+use Rattle.std.specs.Prelude.{◌==◌, ◌&&◌, nat_lt, option_and_then}
 use Rattle.std.proofs.lemmas.Bool.Decides.{nat_tests}
 use Rattle.run_text.specs.Script.{onto, lines_in, is_digit, number_on, numbered, of_session, with_entry, requests_of, with_requests, sessions_of}
 use Rattle.run_text.specs.Reading.{in_first, joined}

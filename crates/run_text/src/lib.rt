@@ -9,7 +9,6 @@ mod printing;
 mod run;
 mod script;
 
-pub use answer_text::{Line, Reply, Transcript};
 pub use printing::transcript;
 pub use run::{Commit2, Run};
 pub use script::{Script, ScriptFault, read};

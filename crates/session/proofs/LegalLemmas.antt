@@ -4,7 +4,7 @@ use Rattle.std.specs.Prelude.{Contains, slice_get}
 use Rattle.std.specs.List.{AllByRecursion, IsDistinct}
 use Rattle.request_reader.specs.Graph.{Graph}
 use Rattle.answer_text.specs.Transcript.{lines_of, asked, graph_at, ok_stamps, IsLineAt, IsTold, own}
-use Rattle.answer_text.specs.Legal.{ComesAfter, IsReplyTo, IsLegal}
+use Rattle.answer_text.specs.Legal.{IsReplyTo, IsLegal}
 use Rattle.answer_text.specs.declared.transcript.Line.{Line}
 use Rattle.answer_text.specs.declared.transcript.Transcript.{Transcript}
 use Rattle.session.specs.Serving.{Stands, IsPrintedBefore}

@@ -1,5 +1,4 @@
-use Rattle.std.proofs.Common.{◌≡◌, ◌∙◌, ◌-◌, ◌++◌, [], refl, sym, ap, take, map, append-nil}
-use Rattle.a1.specs.Parts.{IsServed}
+use Rattle.std.proofs.Common.{◌≡◌, ◌∙◌, ◌-◌, [], refl, sym, ap, take, map, append-nil}
 use Rattle.a1.proofs.TopLemmas.{none_legal}
 use Rattle.a1.proofs.top.serve_script.Goals as goal
 

@@ -1,7 +1,7 @@
-use Rattle.std.proofs.Common.{◌≡◌, ◌≤◌, ◌++◌, ◌∷◌, [], ap, ◌∙◌, map, length, length-append, arith}
+use Rattle.std.proofs.Common.{◌≡◌, ◌++◌, ◌∷◌, [], ap, ◌∙◌, map, length-append, arith}
 use Rattle.std.proofs.lemmas.List.{map-append}
 use Rattle.request_reader.specs.Request.{request_of}
-use Rattle.session.specs.Serving.{Stands, Step}
+use Rattle.session.specs.Serving.{Step}
 use Rattle.answer_text.specs.declared.transcript.Line.{Line}
 use Rattle.session.proofs.HistoryLemmas.{none_served, line_served, step_clock}
 use Rattle.session.proofs.LegalLemmas.{served_legal}

@@ -1,4 +1,4 @@
-use Rattle.std.proofs.Common.{◌≡◌, ◌∙◌, ap}
+use Rattle.std.proofs.Common.{◌∙◌, ap}
 use Rattle.request_reader.specs.Graph.{has_name}
 use Rattle.graph_plain.proofs.NameLemmas.{name_found}
 use Rattle.graph_plain.proofs.plain.Plain.has_name.Goals as goal
