@@ -1,8 +1,13 @@
 //! The worked examples, over a source, a sink and a store in memory.
+mod slow;
+
 use crate::outcome::Outcome;
-use crate::store::MemStore;
+use crate::store::{MemStore, Store, StoreMiss};
 use crate::top::a1;
-use a1_base::{Bin, MemSink, MemSource, NoGate};
+use a1_base::{Bin, MemSink, MemSource, NoGate, Txt};
+use graph_plain::Plain;
+use request_reader::Request;
+use slow::{SlowSink, SlowSource};
 use std::alloc::{AllocError, Global};
 use std::sync::Wait;
 use std::test::Fail;
@@ -214,5 +219,136 @@ fn the_store_is_not_touched(rt: HostRuntime) -> Result<(), Fail> {
     assert_eq!(rt; store.items().len(), 1);
     let item = store.items().first().ok_or("an item")?;
     assert!(rt; item.as_slice() == b"C".as_slice());
+    Ok(())
+}
+
+// A run that goes byte by byte: which read fails, which write fails, which write takes nothing, and what it answers.
+#[derive(Clone, Copy)]
+struct ByteCase<'a> {
+    failing_read: u64,
+    failing_write: u64,
+    idle_write: u64,
+    status: u8,
+    text: &'a str,
+}
+
+#[test]
+fn byte_by_byte(rt: HostRuntime) -> Result<(), Fail> {
+    let alloc = rt.alloc();
+    let whole = "1 {\"ok\":2}\n";
+    let slow = ByteCase {
+        failing_read: 0,
+        failing_write: 0,
+        idle_write: 0,
+        status: 0,
+        text: whole,
+    };
+    let cases = [
+        slow,
+        ByteCase {
+            failing_read: 9,
+            status: 3,
+            text: "",
+            ..slow
+        },
+        ByteCase {
+            failing_write: 4,
+            status: 4,
+            text: "1 {",
+            ..slow
+        },
+        ByteCase {
+            idle_write: 1,
+            status: 4,
+            text: "",
+            ..slow
+        },
+        ByteCase {
+            idle_write: 6,
+            status: 4,
+            text: "1 {\"o",
+            ..slow
+        },
+    ];
+    for case in &cases {
+        let words = strings(alloc, &["run"])?;
+        let mut source = SlowSource {
+            bytes: Vec::from_slice(alloc, PUT_ANN.as_bytes())?,
+            at: 0,
+            calls: 0,
+            failing: case.failing_read,
+            faults: 0,
+        };
+        let mut sink = SlowSink {
+            taken: Vec::new(alloc),
+            calls: 0,
+            failing: case.failing_write,
+            idle: case.idle_write,
+            faults: 0,
+        };
+        let mut store = MemStore::new(Vec::new(alloc), Vec::new(alloc));
+        let outcome = a1(
+            &rt,
+            alloc,
+            &words,
+            &mut source,
+            &mut sink,
+            &mut store,
+            &NoGate,
+        );
+        assert_eq!(rt; outcome.status, case.status, "{:?}", case.text);
+        assert!(rt;
+            sink.taken.as_slice() == case.text.as_bytes(),
+            "{:?}",
+            case.text
+        );
+    }
+    Ok(())
+}
+
+fn asks_for(request: &Request, name: &str) -> bool {
+    match request {
+        Request::Ask(asked) => asked.as_text() == name,
+        Request::Put(_) => false,
+    }
+}
+
+#[test]
+fn with_ample_memory(rt: HostRuntime) -> Result<(), Fail> {
+    let alloc = rt.alloc();
+    let mut bytes = Bin::from_slice(alloc, b"ab")?;
+    bytes.append(b"c")?;
+    assert!(rt; bytes.as_slice() == b"abc".as_slice());
+
+    let name = Txt::from_text(alloc, "ann")?;
+    assert!(rt; name.as_text() == "ann");
+    let mut plain = Plain::opening(alloc).ok().ok_or("a graph")?;
+    assert_eq!(rt; plain.put_name(alloc, &name), Ok(true));
+    assert_eq!(rt; plain.put_name(alloc, &name), Ok(false));
+    assert!(rt; plain.has_name(&name));
+
+    let (_, line) = ASK_ANN.as_bytes().split_at(2);
+    let request = request_reader::read(alloc, line).ok().ok_or("a request")?;
+    assert!(rt; asks_for(&request, "ann"));
+
+    let script = run_text::read(alloc, b"1 x\n\n1 y").ok().ok_or("a script")?;
+    let sessions = script.into_sessions();
+    assert_eq!(rt; sessions.len(), 1);
+    let (number, requests) = sessions.first().ok_or("a session")?;
+    assert_eq!(rt; *number, 1);
+    assert_eq!(rt; requests.len(), 2);
+    Ok(())
+}
+
+#[test]
+fn a_store_in_memory(rt: HostRuntime) -> Result<(), Fail> {
+    let alloc = rt.alloc();
+    let mut store = MemStore::new(Vec::new(alloc), numbers(alloc, 2)?);
+    assert_eq!(rt; store.put(b"C"), Ok(()));
+    assert_eq!(rt; store.put(b"D"), Err(StoreMiss::Failed));
+    let first = store.get(0).ok().ok_or("a get")?.ok_or("an item")?;
+    assert!(rt; first.as_slice() == b"C".as_slice());
+    assert!(rt; store.get(1).ok().ok_or("a get")?.is_none());
+    assert_eq!(rt; store.items().len(), 1);
     Ok(())
 }

@@ -1,5 +1,5 @@
 //! The top call.
-ghost use Rattle.std.specs.Prelude.{◌≡◌, ℕ, ◌≤◌, ◌⊎◌, [], ◌∷◌, Ok, Some, false, length, string_bytes, IfOk, IfErr, IfSome};
+ghost use Rattle.std.specs.Prelude.{◌≡◌, ℕ, ◌≤◌, ◌⊎◌, List, [], ◌∷◌, Ok, Err, Some, IsOk, true, false, length, string_bytes, IfOk, IfErr, IfSome};
 ghost use Rattle.std.specs.Io.KnownBytes.{append_known};
 ghost use Rattle.a1_base.specs.Outside.{Rose};
 ghost use Rattle.request_reader.specs.Graph.{opening};
@@ -231,6 +231,14 @@ pub fn a1<T: Wait, R: Source, W: Sink, S: Store, G: Gate>(
     ensures unread { result.status ≡ 3 → Rose (R.faults source.old) (R.faults source.new) }
     ensures unwritten { result.status ≡ 4 → Rose (W.faults sink.old) (W.faults sink.new) }
 
+    // And each status comes where it must, unless memory was wanting.
+    ensures whole { (bytes : List ℕ) → is_run words.now ≡ true → R.left source.old ≡ Some bytes → IsOk (script_of bytes)
+        → ¬ Rose (R.faults source.old) (R.faults source.new) → ¬ Rose (W.faults sink.old) (W.faults sink.new) → (result.status ≡ 0) ⊎ (result.status ≡ 6) }
+    ensures malformed { (bytes : List ℕ) (line : ℕ) → is_run words.now ≡ true → R.left source.old ≡ Some bytes → script_of bytes ≡ Err line
+        → ¬ Rose (R.faults source.old) (R.faults source.new) → ¬ Rose (W.faults sink.old) (W.faults sink.new) → (result.status ≡ 8) ⊎ (result.status ≡ 6) }
+    ensures other_words { is_run words.now ≡ false → ¬ Rose (W.faults sink.old) (W.faults sink.new) → (result.status ≡ 2) ⊎ (result.status ≡ 6) }
+
+    // The store stays as it was.
     ensures store { S.items store.new ≡ S.items store.old }
 {
     let (ending, run) = command(alloc, words, source, sink);
