@@ -1,6 +1,6 @@
 #!/bin/sh
 # Times the built program, and takes its peak memory: on lines that are no request, 16 and 32 MiB of each kind, and on puts
-# of different names. Of five runs the quickest counts. Needs /usr/bin/time (GNU time) and awk.
+# of different names. Of five runs the middle one counts. Needs /usr/bin/time (GNU time) and awk.
 # Usage: sh examples/measure.sh [PROGRAM]
 program=${1:-crates/a1/out/a1}
 folder=$(mktemp -d) || exit 1
@@ -11,7 +11,7 @@ measure() {
     lines=$(wc -l < "$folder/script")
     for run in 1 2 3 4 5; do
         /usr/bin/time -f "%U %S %M" "$program" run < "$folder/script" 2>&1 > "$folder/text"
-    done | awk '{ printf "%.2f processor seconds, %d KiB\n", $1 + $2, $3 }' | sort -n | head -n 1 | sed "s/^/$1: $bytes bytes, $lines lines, /"
+    done | awk '{ printf "%.2f processor seconds, %d KiB\n", $1 + $2, $3 }' | sort -n | sed -n 3p | sed "s/^/$1: $bytes bytes, $lines lines, /"
 }
 
 # As many lines as fit into 32 MiB, and half of them.
