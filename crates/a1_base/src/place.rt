@@ -1,8 +1,8 @@
 //! Names of objects and of transactions.
 
 /// The address of an object: a region, which lies on the node `region mod nodes`, and a place in it
-/// (FaRM's region and offset; Dragojević et al., NSDI 2014).
-#[derive(Clone, Copy, Debug, PartialEq, Eq)]
+/// (FaRM's region and offset; Dragojević et al., NSDI 2014). Addresses go by region, then by offset.
+#[derive(Clone, Copy, Debug, PartialEq, Eq, PartialOrd, Ord)]
 pub struct Addr {
     pub region: u32,
     pub offset: u32,
