@@ -1,5 +1,5 @@
 -- Scripts, sessions and endings of the top call.
-use Rattle.std.proofs.Common.{◌≡◌, ◌⊎◌, inl, inr, ◌∙◌, ℕ, ◌<◌, List, [], length, Bool, Option, Some, IsOk, Result, Ok, Err, true, false, refl, sym, subst, arith, String}
+use Rattle.std.proofs.Common.{◌≡◌, ◌⊎◌, inl, inr, ◌∙◌, ℕ, ◌<◌, List, [], length, Option, Some, IsOk, Result, Ok, Err, true, false, refl, sym, subst, arith, String}
 use Rattle.std.specs.Prelude.{nat_lt, IfSome}
 use Rattle.std.specs.List.{IsDistinct}
 use Rattle.std.proofs.lemmas.Bool.Decides.{nat_tests}

@@ -3,10 +3,12 @@ mod slow;
 
 use crate::outcome::Outcome;
 use crate::store::{MemStore, Store, StoreMiss};
+use crate::streams::{Input, read_all};
 use crate::top::a1;
-use a1_base::{Bin, MemSink, MemSource, NoGate, Txt};
+use a1_base::{Bin, MemSink, MemSource, NoGate, Sink, Txt};
+use answer_text::Reply;
 use graph_plain::Plain;
-use request_reader::Request;
+use request_reader::{BadWord, Refusal, Request, Word};
 use slow::{SlowSink, SlowSource};
 use std::alloc::{AllocError, Global};
 use std::sync::Wait;
@@ -14,6 +16,9 @@ use std::test::Fail;
 
 const PUT_ANN: &str =
     "1 {\"do\":[{\"put\":{\"graph\":\"sys/names\",\"type\":\"name\",\"v\":{\"id\":\"ann\"}}}]}\n";
+
+const PUT_REQUEST: &str =
+    "{\"do\":[{\"put\":{\"graph\":\"sys/names\",\"type\":\"name\",\"v\":{\"id\":\"ann\"}}}]}";
 
 const PUT_BOB: &str =
     "1 {\"do\":[{\"put\":{\"graph\":\"sys/names\",\"type\":\"name\",\"v\":{\"id\":\"bob\"}}}]}\n";
@@ -186,14 +191,30 @@ fn bad_input(rt: HostRuntime) -> Result<(), Fail> {
 
 #[test]
 fn a_run_has_its_sessions(rt: HostRuntime) -> Result<(), Fail> {
-    let case = running(&[PUT_ANN, ASK_ANN], 0, "");
-    let (outcome, _) = outcome_of(&rt, rt.alloc(), &case.call)?;
-    assert_eq!(rt; outcome.run.base, 1);
-    assert_eq!(rt; outcome.run.sessions.len(), 1);
-    let transcript = outcome.run.sessions.get(0).ok_or("a session")?;
+    let script: [&str; 5] = ["1 ", PUT_REQUEST, "\n1 ", PUT_REQUEST, "\n1 hello"];
+    let (outcome, _) = outcome_of(&rt, rt.alloc(), &running(&script, 0, "").call)?;
+    let run = &outcome.run;
+    assert_eq!(rt; run.base, 1);
+    assert_eq!(rt; run.sessions.len(), 1);
+    let transcript = run.sessions.get(0).ok_or("a session")?;
     assert_eq!(rt; transcript.session, 1);
-    assert_eq!(rt; transcript.lines.len(), 2);
-    assert!(rt; outcome.run.background.is_empty());
+    let lines = transcript.lines.as_slice();
+    assert_eq!(rt; lines.len(), 3);
+    assert_eq!(rt; lines[0].request.as_slice(), PUT_REQUEST.as_bytes());
+    assert!(rt; matches!(lines[0].reply, Reply::Ok { stamp: 2 }));
+    assert_eq!(rt; lines[1].request.as_slice(), PUT_REQUEST.as_bytes());
+    let taken = Refusal {
+        word: Word::KeyTaken,
+    };
+    assert!(rt; matches!(lines[1].reply, Reply::Refused { at: 2, refusal } if refusal == taken));
+    assert_eq!(rt; lines[2].request.as_slice(), b"hello".as_slice());
+    assert!(rt; matches!(lines[2].reply, Reply::Bad { word } if word == BadWord::NotBuilt));
+
+    assert!(rt; run.background.is_empty());
+    assert_eq!(rt; (run.clock, run.own), (0, 0));
+    assert_eq!(rt; (run.objects, run.versions), (0, 0));
+    assert_eq!(rt; run.pending, 0);
+    assert!(rt; run.regions.is_empty());
     Ok(())
 }
 
@@ -306,6 +327,13 @@ fn byte_by_byte(rt: HostRuntime) -> Result<(), Fail> {
     Ok(())
 }
 
+fn whole(input: Input) -> Option<Bin> {
+    match input {
+        Input::Whole(bytes) => Some(bytes),
+        Input::TooLong => None,
+    }
+}
+
 fn asks_for(request: &Request, name: &str) -> bool {
     match request {
         Request::Ask(asked) => asked.as_text() == name,
@@ -317,26 +345,27 @@ fn asks_for(request: &Request, name: &str) -> bool {
 fn with_ample_memory(rt: HostRuntime) -> Result<(), Fail> {
     let alloc = rt.alloc();
     let mut bytes = Bin::from_slice(alloc, b"ab")?;
+    assert_eq!(rt; bytes.as_slice(), b"ab".as_slice());
     bytes.append(b"c")?;
-    assert!(rt; bytes.as_slice() == b"abc".as_slice());
+    assert_eq!(rt; bytes.as_slice(), b"abc".as_slice());
+    let mut source = MemSource::new(bytes, Vec::new(alloc));
+    let input = whole(read_all(alloc, &mut source)?).ok_or("the whole input")?;
+    assert_eq!(rt; input.as_slice(), b"abc".as_slice());
+    let mut sink = MemSink::new(alloc, Vec::new(alloc));
+    assert_eq!(rt; sink.write(b"ab"), Ok(2));
+    assert_eq!(rt; sink.bytes(), b"ab".as_slice());
 
     let name = Txt::from_text(alloc, "ann")?;
-    assert!(rt; name.as_text() == "ann");
-    let mut plain = Plain::opening(alloc).ok().ok_or("a graph")?;
+    assert_eq!(rt; name.as_text(), "ann");
+    let mut plain = Plain::opening(alloc)?;
+    assert!(rt; !plain.has_name(&name));
     assert_eq!(rt; plain.put_name(alloc, &name), Ok(true));
     assert_eq!(rt; plain.put_name(alloc, &name), Ok(false));
     assert!(rt; plain.has_name(&name));
 
     let (_, line) = ASK_ANN.as_bytes().split_at(2);
-    let request = request_reader::read(alloc, line).ok().ok_or("a request")?;
+    let request = request_reader::read(alloc, line)?;
     assert!(rt; asks_for(&request, "ann"));
-
-    let script = run_text::read(alloc, b"1 x\n\n1 y").ok().ok_or("a script")?;
-    let sessions = script.into_sessions();
-    assert_eq!(rt; sessions.len(), 1);
-    let (number, requests) = sessions.first().ok_or("a session")?;
-    assert_eq!(rt; *number, 1);
-    assert_eq!(rt; requests.len(), 2);
     Ok(())
 }
 
@@ -346,9 +375,11 @@ fn a_store_in_memory(rt: HostRuntime) -> Result<(), Fail> {
     let mut store = MemStore::new(Vec::new(alloc), numbers(alloc, 2)?);
     assert_eq!(rt; store.put(b"C"), Ok(()));
     assert_eq!(rt; store.put(b"D"), Err(StoreMiss::Failed));
-    let first = store.get(0).ok().ok_or("a get")?.ok_or("an item")?;
-    assert!(rt; first.as_slice() == b"C".as_slice());
-    assert!(rt; store.get(1).ok().ok_or("a get")?.is_none());
+    let first = store.get(0)?.ok_or("an item")?;
+    assert_eq!(rt; first.as_slice(), b"C".as_slice());
+    assert!(rt; store.get(1)?.is_none());
     assert_eq!(rt; store.items().len(), 1);
+    let item = store.items().first().ok_or("an item")?;
+    assert_eq!(rt; item.as_slice(), b"C".as_slice());
     Ok(())
 }

@@ -1,4 +1,4 @@
-//! The text of each form of reply.
+//! The text of rows.
 use crate::{Reply, text};
 use a1_base::{Bin, Txt};
 use a1_value::Value;

@@ -8,6 +8,8 @@ mod lines;
 mod printing;
 mod run;
 mod script;
+#[cfg(test)]
+mod tests;
 
 pub use printing::transcript;
 pub use run::{Commit2, Run};

@@ -5,5 +5,7 @@
 #![tactic(auto)]
 
 mod serving;
+#[cfg(test)]
+mod tests;
 
 pub use serving::serve;

@@ -1,4 +1,3 @@
-use Rattle.std.proofs.Common.{◌≡◌, ◌⊎◌}
 use Rattle.a1.proofs.TopLemmas.{ends_legal, ends_whole, ends_bad, ends_usage}
 use Rattle.a1.proofs.top.a1.Goals as goal
 
