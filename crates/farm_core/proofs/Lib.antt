@@ -1,0 +1,12 @@
+pub mod Lists
+pub mod Low
+pub mod Held
+pub mod Good
+pub mod First
+pub mod Phases
+pub mod Events
+pub mod Opens
+pub mod Runs
+pub mod Grows
+pub mod Serial
+pub mod Answered

@@ -1,0 +1,18 @@
+//! The laws of every run of the core, as public calls: each takes nothing, does nothing, and its contract is the law.
+ghost use Rattle.farm_core.specs.Serial.{InEveryRun, ReadsWhole, SerialOrder, SnapshotsKept};
+
+/// What a read was answered is the value at its transaction's read stamp in the whole of its node's list, and in every
+/// longer lawful list. Each node's list is lawful.
+pub fn reads_whole()
+    ensures { InEveryRun ReadsWhole }
+{}
+
+/// The transactions that installed all are serial in the order of their write stamps.
+pub fn serial_order()
+    ensures { InEveryRun (λ events answers s. SerialOrder s) }
+{}
+
+/// While a transaction is open, each node keeps what its snapshot shows.
+pub fn snapshots_kept()
+    ensures { InEveryRun (λ events answers s. SnapshotsKept s) }
+{}

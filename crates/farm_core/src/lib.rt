@@ -1,0 +1,12 @@
+//! The transactions of the farm as a machine of events: a clock, the lists of the nodes' entries, and how far each
+//! transaction is (FaRMv2, Shamis et al., SIGMOD 2019).
+//!
+//! The machine's definition and the laws of all its runs stand here. The layer knows nothing of what the bytes of an
+//! object mean.
+#![tactic(auto)]
+
+mod event;
+mod laws;
+
+pub use event::{Answer, Event};
+pub use laws::{reads_whole, serial_order, snapshots_kept};

@@ -1,0 +1,226 @@
+-- Who and what a conflict blames, and the ranges of stamps.
+use Rattle.std.proofs.Common.{◌≡◌, ℕ, ◌<◌, ◌≤◌, nat_lt, cond, Bool, true, false, List, [], ◌∷◌, ◌++◌, Option, Some, None, Result, Ok, Err, sym, refl, ap, ◌∙◌, subst, inl, inr, ⊎_elim, arith}
+use Rattle.std.proofs.lemmas.Bool.{ltb-true}
+use Rattle.a1_base.specs.declared.place.Addr.{Addr}
+use Rattle.a1_base.specs.declared.place.TxnId.{TxnId}
+use Rattle.object_region.specs.Occupancy.{same_addr}
+use Rattle.version_chain.specs.Versions.{newest}
+use Rattle.farm_node.specs.declared.hold.Hold.{Hold}
+use Rattle.farm_node.specs.declared.entry.Found.{Found}
+use Rattle.farm_node.specs.declared.entry.Locked.{Locked}
+use Rattle.farm_node.specs.declared.entry.CheckFault.{CheckFault}
+use Rattle.farm_node.specs.declared.entry.CheckFault.TheVariants.{Held, Changed}
+use Rattle.farm_node.specs.declared.entry.Entry.{Entry}
+use Rattle.farm_node.specs.declared.entry.Entry.TheVariants.{Made, Read, Alloc, Lock, Check}
+use Rattle.farm_node.specs.Cell.{Bytes, Cell, found_at, read_answer, unless_changed, lock_given, lock_answer, check_answer, same_txn, loaded_cell}
+use Rattle.farm_node.specs.Plain.{PinnedBy, FitsLock, FitsCheck, loaded_cells, begun, Lawful, replay}
+use Rattle.farm_node.specs.Story.{Installed, Story, story, story_from, untold, loaded_puts}
+use Rattle.farm_node.specs.Laws.{Each, Among, versions_there}
+use Rattle.farm_node.specs.Locks.{Takes, BlamesHolder, BlamesPut, LocksHold, RangesHold}
+use Rattle.farm_node.proofs.Sound.{Here, Sits, PinOk, sound_begun, sound_end, pinned}
+use Rattle.farm_node.proofs.Steps.{Keeps, keeps_all}
+use Rattle.farm_node.proofs.Stories.{Stands, stands}
+use Rattle.farm_node.proofs.LocksStay.{below, stays, pin}
+use Rattle.farm_node.proofs.Later.{PutAt, later_end}
+use Rattle.farm_node.proofs.PutsStay.{loaded}
+use Rattle.farm_node.proofs.Answered.{answered}
+
+-- who holds an address took it by an entry
+
+abbrev TookBy : Addr → List Entry → Option Hold → Type 0
+TookBy a log None = Unit {0}
+TookBy a log (Some k) = (d : Entry) × Among d log × Takes k.by a d
+
+abbrev TookAt : Addr → List Entry → Option Cell → Type 0
+TookAt a log None = Unit {0}
+TookAt a log (Some c) = TookBy a log c.lock
+
+record Took (a : Addr) (log : List Entry) (c : Option Cell) (past floor : ℕ) (h : Story) : Type 0 where
+  took : TookAt a log c
+
+took : (a : Addr) (log : List Entry) → Keeps a (λ e. Among e log) (Took a log)
+took a log = record {
+  aside = λ c past past' floor h le t. record { took = t.took };
+  looked = λ c s past floor h free t. record { took = t.took };
+  made = λ u r v placed past floor h making t. record { took = (Alloc u r v placed, making.fits, (refl, making.here)) };
+  locked = λ u b r new given c past floor h locking t. record { took = (Lock u b r new (Ok given), locking.fits, (refl, locking.here)) };
+  put = λ u b w c past floor h ending above t. record { took = tt };
+  unlocked = λ u b c past floor h ending t. record { took = tt };
+  back = λ u b c past floor h ending none t. record { took = tt };
+  cut = λ c past past' floor floor' h le more t. record { took = t.took };
+  went = λ c past past' floor floor' h le more gone high t. record { took = tt };
+  none = λ past past' floor floor' h le more t. record { took = tt };
+}
+
+among_more : (log : List Entry) (e : Entry) (es : List Entry) → Each (λ d. Among d log) es → Each (λ d. Among d (e ∷ log)) es
+among_more log e [] t = tt
+among_more log e (d ∷ ds) t = (inr t.0, among_more log e ds t.1)
+
+among_self : (log : List Entry) → Each (λ d. Among d log) log
+among_self [] = tt
+among_self (e ∷ es) = (inl refl, among_more es e es (among_self es))
+
+took_begun : (a : Addr) (log : List Entry) (stamp : ℕ) (heap : List (Addr × Bytes)) → TookAt a log (loaded_cells stamp heap a)
+took_begun a log stamp [] = tt
+took_begun a log stamp (x ∷ xs) = by (same_addr x.0 a) (took_begun a log stamp xs) where
+  by : (g : Bool) → TookAt a log (loaded_cells stamp xs a) → TookAt a log (cond g (Some (loaded_cell stamp x.1)) (loaded_cells stamp xs a))
+  by true more = tt
+  by false more = more
+
+took_end : (a : Addr) (log : List Entry) → Lawful log → TookAt a log ((replay log).cells a)
+took_end a [] lawful = absurd lawful
+took_end a (Made m ∷ es) lawful =
+    (keeps_all a (λ e. Among e (Made m ∷ es)) (Took a (Made m ∷ es)) (took a (Made m ∷ es)) (begun m) untold es (sound_begun m lawful.0) lawful.1
+    (among_self (Made m ∷ es)).1 record { took = took_begun a (Made m ∷ es) m.stamp m.heap }).took
+took_end a (e ∷ es) lawful = absurd lawful
+
+-- who is blamed as the holder
+
+abbrev HeldBecause : TxnId → Option Cell → Type 0
+HeldBecause t found = (c : Cell) × (k : Hold) × (found ≡ Some c) × (c.lock ≡ Some k) × (k.by ≡ t)
+
+module _ (t : TxnId) where
+  read_held : (s : ℕ) (found : Option Cell) → Err t ≡ read_answer s found → HeldBecause t found
+  read_held s None due = cc
+  read_held s (Some c) due = by c.lock refl due where
+    held : (k : Hold) (g : Bool) → Err t ≡ cond g (Ok (found_at s c.versions)) (Err k.by) → k.by ≡ t
+    held k true due = cc
+    held k false due = cc
+
+    by : (l : Option Hold) → c.lock ≡ l → Err t ≡ elim l as (λ _. Result Found TxnId) [ None ↦ Ok (found_at s c.versions) | Some h ↦ cond (nat_lt s (newest c.versions)) (Ok (found_at s c.versions)) (Err h.by) ]
+        → HeldBecause t (Some c)
+    by None is due = cc
+    by (Some k) is due = (c, k, refl, is, held k (nat_lt s (newest c.versions)) due)
+
+  not_changed : {X : Type 0} (r : ℕ) (c : Cell) (x : X) → Err (Held t) ≡ unless_changed r c x → ⊥
+  not_changed r c x due = by (nat_lt r (newest c.versions)) due where
+    by : (g : Bool) → Err (Held t) ≡ cond g (Err (Changed (found_at r c.versions).stamp (newest c.versions))) (Ok x) → ⊥
+    by true due = cc
+    by false due = cc
+
+  lock_held : (u : TxnId) (r : ℕ) (found : Option Cell) → Err (Held t) ≡ lock_answer u r found → HeldBecause t found
+  lock_held u r None due = cc
+  lock_held u r (Some c) due = by c.lock refl due where
+    held : (k : Hold) (g : Bool) → Err (Held t) ≡ cond g (Ok (lock_given 0 c.bound)) (Err (Held k.by)) → k.by ≡ t
+    held k true due = cc
+    held k false due = cc
+
+    by : (l : Option Hold) → c.lock ≡ l
+        → Err (Held t) ≡ elim l as (λ _. Result Locked CheckFault) [ None ↦ unless_changed r c (lock_given (newest c.versions) c.bound) | Some h ↦ cond (same_txn h.by u) (Ok (lock_given 0 c.bound)) (Err (Held h.by)) ]
+        → HeldBecause t (Some c)
+    by None is due = absurd (not_changed r c (lock_given (newest c.versions) c.bound) due)
+    by (Some k) is due = (c, k, refl, is, held k (same_txn k.by u) due)
+
+  check_held : (r : ℕ) (found : Option Cell) → Err (Held t) ≡ check_answer r found → HeldBecause t found
+  check_held r None due = cc
+  check_held r (Some c) due = by c.lock refl due where
+    by : (l : Option Hold) → c.lock ≡ l → Err (Held t) ≡ elim l as (λ _. Result (Unit {0}) CheckFault) [ None ↦ unless_changed r c tt | Some h ↦ Err (Held h.by) ] → HeldBecause t (Some c)
+    by None is due = absurd (not_changed r c tt due)
+    by (Some k) is due = (c, k, refl, is, (let e : Err (Held t) ≡ Err (Held k.by) = due in cc))
+
+took_by : (a : Addr) (log : List Entry) (t : TxnId) → Lawful log → HeldBecause t ((replay log).cells a) → (d : Entry) × Among d log × Takes t a d
+took_by a log t lawful why =
+    subst (λ (u : TxnId). (d : Entry) × Among d log × Takes u a d) why.4
+    (subst (λ (l : Option Hold). TookBy a log l) why.3 (subst (λ (c : Option Cell). TookAt a log c) why.2 (took_end a log lawful)))
+
+holder : (before rest : List Entry) (e : Entry) (t : TxnId) (a : Addr) → Lawful (before ++ e ∷ rest) → BlamesHolder t a e → (d : Entry) × Among d before × Takes t a d
+holder before rest (Read k b s (Err by)) t a lawful blames =
+    let x : Stands a before (Read k b s (Err by) ∷ rest) = stands a before (Read k b s (Err by)) rest tt lawful in
+    took_by a before t x.begins (read_held t s ((replay before).cells a) (ap Err (sym blames.1) ∙ (x.lawful.0.2 ∙ ap (λ (z : Addr). read_answer s ((replay before).cells z)) blames.0)))
+holder before rest (Lock u b r new (Err (Held by))) t a lawful blames =
+    let x : Stands a before (Lock u b r new (Err (Held by)) ∷ rest) = stands a before (Lock u b r new (Err (Held by))) rest tt lawful in
+    let fits : FitsLock (replay before) u b r (Err (Held by)) = x.lawful.0 in
+    took_by a before t x.begins (lock_held t u r ((replay before).cells a) (ap (λ (z : TxnId). Err (Held z)) (sym blames.1) ∙ (fits.due ∙ ap (λ (z : Addr). lock_answer u r ((replay before).cells z)) blames.0)))
+holder before rest (Check u b r w (Err (Held by))) t a lawful blames =
+    let x : Stands a before (Check u b r w (Err (Held by)) ∷ rest) = stands a before (Check u b r w (Err (Held by))) rest tt lawful in
+    let fits : FitsCheck (replay before) u b r w (Err (Held by)) = x.lawful.0 in
+    took_by a before t x.begins (check_held t r ((replay before).cells a) (ap (λ (z : TxnId). Err (Held z)) (sym blames.1) ∙ (fits.due ∙ ap (λ (z : Addr). check_answer r ((replay before).cells z)) blames.0)))
+holder before rest e t a lawful blames = absurd blames
+
+-- the stamp that is blamed
+
+abbrev ChangedBecause : ℕ → ℕ → Option Cell → Type 0
+ChangedBecause r now found = (c : Cell) × (found ≡ Some c) × (r < now) × (newest c.versions ≡ now)
+
+module _ (seen now : ℕ) where
+  changed_is : {X : Type 0} (r : ℕ) (c : Cell) (x : X) → Err (Changed seen now) ≡ unless_changed r c x → ChangedBecause r now (Some c)
+  changed_is r c x due = by (nat_lt r (newest c.versions)) refl due where
+    by : (g : Bool) → nat_lt r (newest c.versions) ≡ g → Err (Changed seen now) ≡ cond g (Err (Changed (found_at r c.versions).stamp (newest c.versions))) (Ok x) → ChangedBecause r now (Some c)
+    by true is due =
+        let same : newest c.versions ≡ now = cc in
+        let low : r < newest c.versions = ltb-true r (newest c.versions) is in
+        (c, refl, omega arith, same)
+    by false is due = cc
+
+  lock_changed : (t : TxnId) (r : ℕ) (found : Option Cell) → Err (Changed seen now) ≡ lock_answer t r found → ChangedBecause r now found
+  lock_changed t r None due = cc
+  lock_changed t r (Some c) due = by c.lock due where
+    held : (k : Hold) (g : Bool) → Err (Changed seen now) ≡ cond g (Ok (lock_given 0 c.bound)) (Err (Held k.by)) → ChangedBecause r now (Some c)
+    held k true due = cc
+    held k false due = cc
+
+    by : (l : Option Hold)
+        → Err (Changed seen now) ≡ elim l as (λ _. Result Locked CheckFault) [ None ↦ unless_changed r c (lock_given (newest c.versions) c.bound) | Some h ↦ cond (same_txn h.by t) (Ok (lock_given 0 c.bound)) (Err (Held h.by)) ]
+        → ChangedBecause r now (Some c)
+    by None due = changed_is r c (lock_given (newest c.versions) c.bound) due
+    by (Some k) due = held k (same_txn k.by t) due
+
+  check_changed : (r : ℕ) (found : Option Cell) → Err (Changed seen now) ≡ check_answer r found → ChangedBecause r now found
+  check_changed r None due = cc
+  check_changed r (Some c) due = by c.lock due where
+    by : (l : Option Hold) → Err (Changed seen now) ≡ elim l as (λ _. Result (Unit {0}) CheckFault) [ None ↦ unless_changed r c tt | Some h ↦ Err (Held h.by) ] → ChangedBecause r now (Some c)
+    by None due = changed_is r c tt due
+    by (Some k) due = cc
+
+abbrev PutBecause : ℕ → ℕ → List Installed → Type 0
+PutBecause r now puts = (i : Installed) × Among i puts × (i.stamp ≡ now) × (r < now) × (0 < i.by.actor)
+
+among_first : (i : Installed) (xs ys : List Installed) → Among i xs → Among i (xs ++ ys)
+among_first i [] ys there = absurd there
+among_first i (x ∷ xs) ys there = ⊎_elim (λ is. inl is) (λ more. inr (among_first i xs ys more)) there
+
+-- the newest version above the floor is an actor's put
+newest_put : (a : Addr) (k r now : ℕ) (log : List Entry) → Lawful log → PinnedBy (replay log) k r → ChangedBecause r now ((replay log).cells a) → PutBecause r now (story a log).puts
+newest_put a k r now [] lawful pin why = absurd lawful
+newest_put a k r now (Made m ∷ es) lawful pin why =
+    let l = later_end a m es lawful in
+    let low : (replay (Made m ∷ es)).floor ≤ r = (pinned (replay (Made m ∷ es)) k r (sound_end (Made m ∷ es) lawful) pin).1 in
+    let above : r < now = why.2 in
+    let top : newest (versions_there ((replay (Made m ∷ es)).cells a)) ≡ now = ap (λ (c : Option Cell). newest (versions_there c)) why.1 ∙ why.3 in
+    ⊎_elim
+    (λ (old : newest (versions_there ((replay (Made m ∷ es)).cells a)) ≤ (replay (Made m ∷ es)).floor). absurd (omega arith))
+    (λ (put : PutAt (newest (versions_there ((replay (Made m ∷ es)).cells a))) (story_from a untold es).puts).
+    (put.0, subst (λ (puts : List Installed). Among put.0 puts) (sym (loaded m es a lawful)) (among_first put.0 (story_from a untold es).puts (loaded_puts a m.stamp m.heap) put.1), put.2 ∙ top, above, (l.puts put.0 put.1).0))
+    l.newest
+newest_put a k r now (e ∷ es) lawful pin why = absurd lawful
+
+change : (before rest : List Entry) (e : Entry) (r now : ℕ) (a : Addr) → Lawful (before ++ e ∷ rest) → BlamesPut r now a e
+    → (i : Installed) × Among i (story a before).puts × (i.stamp ≡ now) × (r < now) × (0 < i.by.actor)
+change before rest (Lock u b q new (Err (Changed s n))) r now a lawful blames =
+    let x : Stands a before (Lock u b q new (Err (Changed s n)) ∷ rest) = stands a before (Lock u b q new (Err (Changed s n))) rest tt lawful in
+    let fits : FitsLock (replay before) u b q (Err (Changed s n)) = x.lawful.0 in
+    newest_put a u.actor r now before x.begins (subst (λ (z : ℕ). PinnedBy (replay before) u.actor z) blames.1 fits.pinned)
+    (lock_changed s now u r ((replay before).cells a)
+    (ap (λ (z : ℕ). Err (Changed s z)) (sym blames.2) ∙ (fits.due ∙ ap (λ (z : Addr × ℕ). lock_answer u z.1 ((replay before).cells z.0)) (λ i. (blames.0 i, blames.1 i)))))
+change before rest (Check u b q w (Err (Changed s n))) r now a lawful blames =
+    let x : Stands a before (Check u b q w (Err (Changed s n)) ∷ rest) = stands a before (Check u b q w (Err (Changed s n))) rest tt lawful in
+    let fits : FitsCheck (replay before) u b q w (Err (Changed s n)) = x.lawful.0 in
+    newest_put a u.actor r now before x.begins (subst (λ (z : ℕ). PinnedBy (replay before) u.actor z) blames.1 fits.pinned)
+    (check_changed s now r ((replay before).cells a)
+    (ap (λ (z : ℕ). Err (Changed s z)) (sym blames.2) ∙ (fits.due ∙ ap (λ (z : Addr × ℕ). check_answer z.1 ((replay before).cells z.0)) (λ i. (blames.0 i, blames.1 i)))))
+change before rest e r now a lawful blames = absurd blames
+
+pub locks : LocksHold
+locks = record { below = below; stays = stays; pin = pin; holder = holder; change = change }
+
+pub ranges : RangesHold
+ranges = record {
+  bound = λ log a c lawful is.
+      let sits : Sits (replay log).regions a c = subst (λ (z : Option Cell). Here (Sits (replay log).regions a) z) is ((sound_end log lawful).sits a) in
+      (sits.bound, sits.versions);
+  past = λ log lawful. ((sound_end log lawful).past, (sound_end log lawful).floor);
+  pin = λ log k x lawful is.
+      let ok : PinOk (replay log).actors (replay log).floor k (Some x) = subst (λ (z : Option ℕ). PinOk (replay log).actors (replay log).floor k z) is ((sound_end log lawful).pins k) in
+      ok.3;
+  answered = answered;
+}

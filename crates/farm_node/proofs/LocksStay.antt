@@ -1,0 +1,110 @@
+-- What holds of locks and pins through entries of others.
+use Rattle.std.proofs.Common.{◌≡◌, ℕ, ◌<◌, ◌≤◌, max, cond, Bool, true, List, [], ◌∷◌, ◌++◌, Option, Some, None, Ok, Err, sym, refl, ap, ◌∙◌, subst, ⊎_elim, arith}
+use Rattle.std.proofs.lemmas.Bool.{ne_eqb}
+use Rattle.a1_base.specs.declared.place.Addr.{Addr}
+use Rattle.a1_base.specs.declared.place.TxnId.{TxnId}
+use Rattle.version_chain.specs.Versions.{newest}
+use Rattle.farm_node.specs.declared.hold.Hold.{Hold}
+use Rattle.farm_node.specs.declared.entry.Entry.{Entry}
+use Rattle.farm_node.specs.declared.entry.Entry.TheVariants.{Made, Open, Shut, Read, Alloc, Lock, Check, Put, Unlock, Collect}
+use Rattle.farm_node.specs.Cell.{Cell, is_open, is_gone}
+use Rattle.farm_node.specs.Plain.{Plain, after, begun, replay_from, Lawful, replay}
+use Rattle.farm_node.specs.Story.{Story, story, story_from}
+use Rattle.farm_node.specs.Laws.{Each}
+use Rattle.farm_node.specs.Locks.{IsOther}
+use Rattle.farm_node.proofs.Addresses.{and_left}
+use Rattle.farm_node.proofs.Steps.{Keeps, keeps_all}
+use Rattle.farm_node.proofs.Chains.{newest_cut}
+use Rattle.farm_node.proofs.Stories.{Below, ends, replay_append, Stands, stands_behind}
+
+pub below : (log : List Entry) (a : Addr) (c : Cell) → Lawful log → (replay log).cells a ≡ Some c → newest c.versions ≤ c.bound
+below log a c lawful is = subst Below is (ends a log lawful).tells.below
+
+-- a held address through entries of others
+
+abbrev HeldAt : Hold → ℕ → ℕ → Option Cell → Type 0
+HeldAt h bound top None = ⊥
+HeldAt h bound top (Some d) = (d.lock ≡ Some h) × (d.bound ≡ bound) × (newest d.versions ≡ top)
+
+record StaysHeld (h : Hold) (bound top : ℕ) (c : Option Cell) (past floor : ℕ) (story : Story) : Type 0 where
+  held : HeldAt h bound top c
+
+-- who ends or renews a lock is who has it
+same_actor : (c : Cell) (h k : Hold) (t : TxnId) → c.lock ≡ Some h → c.lock ≡ Some k → k.by ≡ t → t.actor ≡ h.by.actor
+same_actor c h k t is is' own = cc
+
+stays_held : (a : Addr) (h : Hold) (bound top : ℕ) → top ≤ bound → Keeps a (IsOther h.by.actor) (StaysHeld h bound top)
+stays_held a h bound top le = record {
+  aside = λ c past past' floor story more t. record { held = t.held };
+  looked = λ c s past floor story free t. record {
+    held = (
+      t.held.0,
+      ⊎_elim
+          (λ (none : c.lock ≡ None). let held : c.lock ≡ Some h = t.held.0 in cc)
+          (λ (low : s < newest c.versions). let b : c.bound ≡ bound = t.held.1 in let n : newest c.versions ≡ top = t.held.2 in (let r : max c.bound s ≡ bound = omega arith in r))
+          free,
+      t.held.2,
+    );
+  };
+  made = λ u r v placed past floor story making t. absurd t.held;
+  locked = λ u b r new given c past floor story locking t. absurd (⊎_elim
+      (λ (free : c.lock ≡ None). let held : c.lock ≡ Some h = t.held.0 in cc)
+      (λ own. locking.fits (same_actor c h own.0 u t.held.0 own.1 own.2))
+      locking.free);
+  put = λ u b w c past floor story ending above t. absurd (ending.fits (same_actor c h ending.hold u t.held.0 ending.lock ending.own));
+  unlocked = λ u b c past floor story ending t. absurd (ending.fits (same_actor c h ending.hold u t.held.0 ending.lock ending.own));
+  back = λ u b c past floor story ending none t. absurd (ending.fits (same_actor c h ending.hold u t.held.0 ending.lock ending.own));
+  cut = λ c past past' floor floor' story past_more more t. record { held = (t.held.0, t.held.1, newest_cut floor' c.versions ∙ t.held.2) };
+  went = λ c past past' floor floor' story past_more more gone high t. absurd (not_open c.lock h t.held.0 (and_left (is_open c.lock) (is_gone floor' c.versions) gone));
+  none = λ past past' floor floor' story past_more more t. absurd t.held;
+} where
+  not_open : (l : Option Hold) (k : Hold) → l ≡ Some k → is_open l ≡ true → ⊥
+  not_open None k is e = cc
+  not_open (Some x) k is e = cc
+
+held_cell : (h : Hold) (bound top : ℕ) (c : Option Cell) → HeldAt h bound top c → (d : Cell) × (c ≡ Some d) × (d.lock ≡ Some h) × (d.bound ≡ bound) × (newest d.versions ≡ top)
+held_cell h bound top None t = absurd t
+held_cell h bound top (Some d) t = (d, refl, t.0, t.1, t.2)
+
+pub stays : (before rest : List Entry) (a : Addr) (c : Cell) (h : Hold) → Lawful (before ++ rest) → (replay before).cells a ≡ Some c → c.lock ≡ Some h → Each (IsOther h.by.actor) rest
+    → (d : Cell) × ((replay (before ++ rest)).cells a ≡ Some d) × (d.lock ≡ Some h) × (d.bound ≡ c.bound) × (newest d.versions ≡ newest c.versions)
+stays [] rest a c h lawful is lock others = cc
+stays (Made m ∷ es) rest a c h lawful is lock others =
+    let x : Stands a (Made m ∷ es) rest = stands_behind a m es rest lawful in
+    let p : Plain = replay (Made m ∷ es) in
+    let low : newest c.versions ≤ c.bound = below (Made m ∷ es) a c x.begins is in
+    let start : HeldAt h c.bound (newest c.versions) (p.cells a) = subst (λ (z : Option Cell). HeldAt h c.bound (newest c.versions) z) (sym is) (lock, refl, refl) in
+    let end : StaysHeld h c.bound (newest c.versions) ((replay_from p rest).cells a) (replay_from p rest).past (replay_from p rest).floor (story_from a (story a (Made m ∷ es)) rest) =
+    keeps_all a (IsOther h.by.actor) (StaysHeld h c.bound (newest c.versions)) (stays_held a h c.bound (newest c.versions) low) p (story a (Made m ∷ es)) rest x.sound x.lawful others record { held = start } in
+    held_cell h c.bound (newest c.versions) ((replay (Made m ∷ (es ++ rest))).cells a)
+    (subst (λ (z : Plain). HeldAt h c.bound (newest c.versions) (z.cells a)) (sym (replay_append (begun m) es rest)) end.held)
+stays (e ∷ es) rest a c h lawful is lock others = absurd lawful
+
+-- a pin through entries of others
+
+pin_after : (p : Plain) (k : ℕ) (e : Entry) → IsOther k e → (after p e).pins k ≡ p.pins k
+pin_after p k (Made m) other = refl
+pin_after p k (Open j c x) other = ap (λ (g : Bool). cond g (Some x) (p.pins k)) (ne_eqb j k other)
+pin_after p k (Shut j) other = ap (λ (g : Bool). cond g None (p.pins k)) (ne_eqb j k other)
+pin_after p k (Read j b s (Ok found)) other = refl
+pin_after p k (Read j b s (Err by)) other = refl
+pin_after p k (Alloc u r v placed) other = refl
+pin_after p k (Lock u b r new (Ok given)) other = refl
+pin_after p k (Lock u b r new (Err fault)) other = refl
+pin_after p k (Check u b r w (Ok same)) other = refl
+pin_after p k (Check u b r w (Err fault)) other = refl
+pin_after p k (Put u b w) other = refl
+pin_after p k (Unlock u b) other = refl
+pin_after p k (Collect j f removed) other = refl
+
+pin_from : (p : Plain) (k : ℕ) (es : List Entry) → Each (IsOther k) es → (replay_from p es).pins k ≡ p.pins k
+pin_from p k [] others = refl
+pin_from p k (e ∷ es) others = pin_from (after p e) k es others.1 ∙ pin_after p k e others.0
+
+pub pin : (before rest : List Entry) (k : ℕ) → Lawful (before ++ rest) → Each (IsOther k) rest → (replay (before ++ rest)).pins k ≡ (replay before).pins k
+pin [] [] k lawful others = refl
+pin [] (Made m ∷ es) k lawful others = pin_from (begun m) k es others.1
+pin [] (e ∷ es) k lawful others = absurd lawful
+pin (Made m ∷ es) rest k lawful others =
+    ap (λ (z : Plain). z.pins k) (replay_append (begun m) es rest) ∙ pin_from (replay (Made m ∷ es)) k rest others
+pin (e ∷ es) rest k lawful others = absurd lawful

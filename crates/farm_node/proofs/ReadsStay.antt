@@ -1,0 +1,137 @@
+-- What is read stays so, and pins keep what they show.
+use Rattle.std.proofs.Common.{◌≡◌, ℕ, ◌≤◌, nat_lt, cond, Bool, true, false, List, ◌∷◌, ◌++◌, Option, Some, None, Result, Ok, Err, sym, refl, ap, ◌∙◌, subst, arith}
+use Rattle.a1_base.specs.declared.place.Addr.{Addr}
+use Rattle.a1_base.specs.declared.place.TxnId.{TxnId}
+use Rattle.object_region.specs.Occupancy.{same_addr}
+use Rattle.version_chain.specs.Versions.{Version, version_at, newest}
+use Rattle.farm_node.specs.declared.hold.Hold.{Hold}
+use Rattle.farm_node.specs.declared.entry.Found.{Found}
+use Rattle.farm_node.specs.declared.entry.Placed.{Placed}
+use Rattle.farm_node.specs.declared.entry.Entry.{Entry}
+use Rattle.farm_node.specs.declared.entry.Entry.TheVariants.{Read, Alloc}
+use Rattle.farm_node.specs.Cell.{Bytes, Cell, found_of, found_at, read_answer, raised_to, past_raised, made_by}
+use Rattle.farm_node.specs.Plain.{Plain, set_cell, looked_at, after, LawfulFrom, Lawful, replay}
+use Rattle.farm_node.specs.Story.{gives, Installed, Story, with_given, story_after, story_from, story, versions_of, seen, value_at}
+use Rattle.farm_node.specs.Laws.{versions_there, ReadsHold, PinsHold}
+use Rattle.farm_node.proofs.Addresses.{same_self}
+use Rattle.farm_node.proofs.Sound.{Sound, sound, sound_end, pinned}
+use Rattle.farm_node.proofs.Steps.{Keeps, keeps_all, no_cell}
+use Rattle.farm_node.proofs.Chains.{passed_at}
+use Rattle.farm_node.proofs.Stories.{each_unit, Ends, ends, Stands, stands}
+
+-- a stamp that is barred sees no later put
+
+abbrev pub Barred : ℕ → Option Cell → ℕ → Type 0
+Barred s None past = s ≤ past
+Barred s (Some c) past = s ≤ c.bound
+
+pub record Fixed (s : ℕ) (target : Option Version) (c : Option Cell) (past floor : ℕ) (h : Story) : Type 0 where
+  pub barred : Barred s c past
+  pub still : version_at s (versions_of h.puts) ≡ target
+
+pub barred_more : (s : ℕ) (c : Option Cell) (past past' : ℕ) → past ≤ past' → Barred s c past → Barred s c past'
+barred_more s None past past' le t = omega arith
+barred_more s (Some c) past past' le t = t
+
+pub barred_less : (s w : ℕ) (c : Option Cell) (past : ℕ) → s ≤ w → Barred w c past → Barred s c past
+barred_less s w None past le t = omega arith
+barred_less s w (Some c) past le t = omega arith
+
+pub fixed : (a : Addr) (s : ℕ) (target : Option Version) → Keeps a (λ e. Unit {0}) (Fixed s target)
+fixed a s target = record {
+  aside = λ c past past' floor h le t. record { barred = barred_more s c past past' le t.barred; still = t.still };
+  looked = λ c x past floor h free t. record { barred = let b : s ≤ c.bound = t.barred in omega arith; still = t.still };
+  made = λ u r v placed past floor h making t. record { barred = let b : s ≤ past = t.barred in omega arith; still = t.still };
+  locked = λ u b r new given c past floor h locking t. record { barred = t.barred; still = t.still };
+  put = λ u b w c past floor h ending above t.
+      let low : s ≤ c.bound = t.barred in
+      record { barred = omega arith; still = passed_at s (w, (h.given u).value) (versions_of h.puts) (omega arith) ∙ t.still };
+  unlocked = λ u b c past floor h ending t. record { barred = t.barred; still = t.still };
+  back = λ u b c past floor h ending none t. record { barred = let l : s ≤ c.bound = t.barred in omega arith; still = t.still };
+  cut = λ c past past' floor floor' h le more t. record { barred = t.barred; still = t.still };
+  went = λ c past past' floor floor' h le more gone high t. record { barred = let l : s ≤ c.bound = t.barred in omega arith; still = t.still };
+  none = λ past past' floor floor' h le more t. record { barred = let l : s ≤ past = t.barred in omega arith; still = t.still };
+}
+
+-- from where a stamp is barred on, it sees the same
+pub fixed_all : (a : Addr) (s : ℕ) (p : Plain) (h : Story) (es : List Entry) → Sound p → LawfulFrom p es → Barred s (p.cells a) p.past
+    → version_at s (versions_of (story_from a h es).puts) ≡ version_at s (versions_of h.puts)
+fixed_all a s p h es sound lawful bar =
+    (keeps_all a (λ e. Unit {0}) (Fixed s (version_at s (versions_of h.puts))) (fixed a s (version_at s (versions_of h.puts))) p h es sound lawful (each_unit es) record { barred = bar; still = refl }).still
+
+raised_bars : (s : ℕ) (c : Option Cell) (past : ℕ) → Barred s (raised_to s c) (past_raised s c past)
+raised_bars s None past = omega arith
+raised_bars s (Some c) past = omega arith
+
+pub set_self : (a : Addr) (c : Option Cell) (cells : Addr → Option Cell) → set_cell a c cells a ≡ c
+set_self a c cells = ap (λ (g : Bool). cond g c (cells a)) (same_self a)
+
+pub look_bars : (a : Addr) (s : ℕ) (p : Plain) → Barred s ((looked_at a s p).cells a) (looked_at a s p).past
+look_bars a s p = subst (λ (c : Option Cell). Barred s c (past_raised s (p.cells a) p.past)) (sym (set_self a (raised_to s (p.cells a)) p.cells)) (raised_bars s (p.cells a) p.past)
+
+-- the laws
+
+abbrev found_in : Result Found TxnId → Found
+found_in (Ok found) = found
+found_in (Err by) = found_of None
+
+read_is : (s : ℕ) (c : Option Cell) (found : Found) → Ok found ≡ read_answer s c → found ≡ found_at s (versions_there c)
+read_is s None found due = ap found_in due
+read_is s (Some c) found due = by c.lock due where
+  held : (k : Hold) (g : Bool) → Ok found ≡ cond g (Ok (found_at s c.versions)) (Err k.by) → found ≡ found_at s c.versions
+  held k true due = ap found_in due
+  held k false due = cc
+
+  by : (l : Option Hold) → Ok found ≡ elim l as (λ _. Result Found TxnId) [ None ↦ Ok (found_at s c.versions) | Some h ↦ cond (nat_lt s (newest c.versions)) (Ok (found_at s c.versions)) (Err h.by) ]
+      → found ≡ found_at s c.versions
+  by None due = ap found_in due
+  by (Some k) due = held k (nat_lt s (newest c.versions)) due
+
+read_holds : (before rest : List Entry) (k : ℕ) (a : Addr) (s : ℕ) (found : Found)
+    → Lawful (before ++ Read k a s (Ok found) ∷ rest) → value_at (before ++ Read k a s (Ok found) ∷ rest) a s ≡ seen found
+read_holds before rest k a s found lawful =
+    let e : Entry = Read k a s (Ok found) in
+    let t : Stands a before (e ∷ rest) = stands a before e rest tt lawful in
+    let p : Plain = replay before in
+    let h : Story = story a before in
+    let fits = t.lawful.0 in
+    let told : seen found ≡ seen (found_at s (versions_of h.puts)) = ap seen (read_is s (p.cells a) found fits.2) ∙ t.tells.same s (pinned p k s t.sound fits.0).1 in
+    let stays : version_at s (versions_of (story_from a h rest).puts) ≡ version_at s (versions_of h.puts) =
+    fixed_all a s (looked_at a s p) h rest (sound p e fits t.sound) t.lawful.1 (look_bars a s p) in
+    ap (λ (z : Story). seen (found_at s (versions_of z.puts))) t.story ∙ (ap (λ (x : Option Version). seen (found_of x)) stays ∙ sym told)
+
+made_holds : (before rest : List Entry) (u : TxnId) (r : ℕ) (v : Bytes) (placed : Placed)
+    → Lawful (before ++ Alloc u r v placed ∷ rest) → value_at (before ++ Alloc u r v placed ∷ rest) placed.at r ≡ None
+made_holds before rest u r v placed lawful =
+    let a : Addr = placed.at in
+    let e : Entry = Alloc u r v placed in
+    let t : Stands a before (e ∷ rest) = stands a before e rest tt lawful in
+    let p : Plain = replay before in
+    let h : Story = story a before in
+    let new : Option Cell = Some (made_by u v placed.bound) in
+    let fits = t.lawful.0 in
+    let low : r ≤ placed.bound = omega arith in
+    let told : None ≡ seen (found_at r (versions_of h.puts)) =
+    ap (λ (c : Option Cell). seen (found_at r (versions_there c))) (sym (no_cell (p.cells a) fits.2.free)) ∙ t.tells.same r (pinned p u.actor r t.sound fits.0).1 in
+    let bars : Barred r (set_cell a new p.cells a) p.past = subst (λ (c : Option Cell). Barred r c p.past) (sym (set_self a new p.cells)) low in
+    let puts : (story_after a h e).puts ≡ h.puts =
+    elim (same_addr a a) as (λ g. (cond g (with_given u (gives r (Some v)) h) h).puts ≡ h.puts) [ true ↦ refl | false ↦ refl ] in
+    let stays : version_at r (versions_of (story_from a (story_after a h e) rest).puts) ≡ version_at r (versions_of (story_after a h e).puts) =
+    fixed_all a r (after p e) (story_after a h e) rest (sound p e fits t.sound) t.lawful.1 bars in
+    ap (λ (z : Story). seen (found_at r (versions_of z.puts))) t.story
+    ∙ (ap (λ (x : Option Version). seen (found_of x)) stays ∙ (ap (λ (puts : List Installed). seen (found_at r (versions_of puts))) puts ∙ sym told))
+
+pub reads : ReadsHold
+reads = record { read = read_holds; made = made_holds }
+
+pin_above : (p : Plain) (k x : ℕ) → Sound p → p.pins k ≡ Some x → p.floor ≤ x
+pin_above p k x s is = (pinned p k x s (x, is, omega arith)).1
+
+pub pins : PinsHold
+pins = record {
+  floor_below = λ log k x lawful is. pin_above (replay log) k x (sound_end log lawful) is;
+  kept = λ log k x a s lawful is le.
+      let t : Ends a log = ends a log lawful in
+      let low : (replay log).floor ≤ x = pin_above (replay log) k x t.sound is in
+      t.tells.same s (omega arith);
+}

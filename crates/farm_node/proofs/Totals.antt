@@ -1,0 +1,218 @@
+-- Totals over all places of a node, where one address changes.
+use Rattle.std.proofs.Common.{◌≡◌, ◌⊎◌, Ordering, ℕ, zero, suc, ◌+◌, ◌<◌, ◌≤◌, max, cond, Bool, true, false, ◌&&◌, leb, List, [], ◌∷◌, Option, Some, None, sym, refl, ap, ◌∙◌, subst, inl, inr, arith}
+use Rattle.std.specs.BTreeMap.{BTreeMap, IsOrdered, is_at}
+use Rattle.std.specs.List.{AllByRecursion}
+use Rattle.std.specs.List.Sorted.{IsStrictlySortedBy}
+use Rattle.std.specs.Map.{lookup, keys_of}
+use Rattle.std.specs.Ordering.{is_eq}
+use Rattle.std.specs.declared.cmp.Ordering.TheVariants.{Less}
+use Rattle.std.proofs.lemmas.Bool.{false_from_ne_true, true≢false, cases_eq}
+use Rattle.std.proofs.lemmas.Map.Keys.{sorted_head, sorted_tail}
+use Rattle.a1_base.specs.declared.place.Addr.{Addr}
+use Rattle.object_region.specs.Occupancy.{width, addr_order, same_addr, In, IsBelow, Rises}
+use Rattle.version_chain.specs.Versions.{Version, cut}
+use Rattle.farm_node.specs.Cell.{Cell, collected, past_collected, goes, is_gone, is_open}
+use Rattle.farm_node.specs.Plain.{set_cell, places_in, places, total, past_over}
+use Rattle.farm_node.specs.State.{cells_of}
+use Rattle.farm_node.proofs.Addresses.{addr_eq, same_self}
+
+-- how often an address stands in a list
+
+abbrev one_at : Addr → Addr → ℕ
+one_at a b = cond (same_addr a b) 1 0
+
+abbrev occurrences : Addr → List Addr → ℕ
+occurrences a [] = 0
+occurrences a (b ∷ bs) = one_at a b + occurrences a bs
+
+one_here : (a b : Addr) → a ≡ b → one_at a b ≡ 1
+one_here a b e = ap (one_at a) (sym e) ∙ ap (λ (g : Bool). cond g 1 0) (same_self a)
+
+one_elsewhere : (a b : Addr) → (a ≡ b → ⊥) → one_at a b ≡ 0
+one_elsewhere a b apart = ap (λ (g : Bool). cond g 1 0) (false_from_ne_true (same_addr a b) (λ e. apart (addr_eq a b e)))
+
+-- the places of one region do not have an address of another, or one past them
+occurrences_outside : (a : Addr) (region n : ℕ) (more : List Addr) → (a.region ≡ region → n ≤ a.offset) → occurrences a (places_in region n more) ≡ occurrences a more
+occurrences_outside a region zero more outside = refl
+occurrences_outside a region (suc n) more outside =
+    let place : Addr = record { region = region; offset = n } in
+    let rest : occurrences a (places_in region n more) ≡ occurrences a more = occurrences_outside a region n more lower in
+    let none : one_at a place ≡ 0 = one_elsewhere a place (λ e. apart (ap (λ (b : Addr). b.region) e) (ap (λ (b : Addr). b.offset) e)) in
+    omega arith where
+      lower : a.region ≡ region → n ≤ a.offset
+      lower r = let above : suc n ≤ a.offset = outside r in omega arith
+
+      apart : a.region ≡ region → a.offset ≡ n → ⊥
+      apart r o = let above : suc n ≤ a.offset = outside r in omega arith
+
+occurrences_inside : (a : Addr) (n : ℕ) (more : List Addr) → a.offset < n → occurrences a (places_in a.region n more) ≡ 1 + occurrences a more
+occurrences_inside a zero more low = absurd (omega arith)
+occurrences_inside a (suc n) more low = at (cases_eq a.offset n) (λ below. occurrences_inside a n more below) where
+  at : (a.offset ≡ n) ⊎ (a.offset ≡ n → ⊥) → (a.offset < n → occurrences a (places_in a.region n more) ≡ 1 + occurrences a more)
+      → occurrences a (places_in a.region (suc n) more) ≡ 1 + occurrences a more
+  at (inl o) inside =
+      let place : Addr = record { region = a.region; offset = n } in
+      let here : one_at a place ≡ 1 = one_here a place (λ i. record { region = a.region; offset = o i }) in
+      let rest : occurrences a (places_in a.region n more) ≡ occurrences a more = occurrences_outside a a.region n more (λ r. omega arith) in
+      omega arith
+  at (inr apart) inside =
+      let place : Addr = record { region = a.region; offset = n } in
+      let none : one_at a place ≡ 0 = one_elsewhere a place (λ e. apart (ap (λ (b : Addr). b.offset) e)) in
+      let rest : occurrences a (places_in a.region n more) ≡ 1 + occurrences a more = inside (omega (arith, apart)) in
+      omega arith
+
+occurrences_below : (a : Addr) (regions : List ℕ) → IsBelow a.region regions → occurrences a (places regions) ≡ 0
+occurrences_below a [] below = refl
+occurrences_below a (n ∷ ns) below =
+    occurrences_outside a n width (places ns) (λ r. let low : a.region < n = below.0 in absurd (omega arith)) ∙ occurrences_below a ns below.1
+
+below_each : (m n : ℕ) (ns : List ℕ) → IsBelow m ns → In n ns → m < n
+below_each m n [] below there = absurd there
+below_each m n (k ∷ ks) below (inl e) = subst (λ (z : ℕ). m < z) e below.0
+below_each m n (k ∷ ks) below (inr there) = below_each m n ks below.1 there
+
+-- each place of the node stands once among its places
+occurs_once : (a : Addr) (regions : List ℕ) → Rises regions → In a.region regions → a.offset < width → occurrences a (places regions) ≡ 1
+occurs_once a [] rises there low = absurd there
+occurs_once a (n ∷ ns) rises (inl e) low =
+    ap (λ (m : ℕ). occurrences a (places_in m width (places ns))) e
+    ∙ (occurrences_inside a width (places ns) low
+    ∙ ap (λ (m : ℕ). 1 + m) (occurrences_below a ns (subst (λ (m : ℕ). IsBelow m ns) e rises.0)))
+occurs_once a (n ∷ ns) rises (inr there) low =
+    let above : n < a.region = below_each n a.region ns rises.0 there in
+    occurrences_outside a n width (places ns) (λ r. absurd (omega arith)) ∙ occurs_once a ns rises.1 there low
+
+-- a total over any list
+
+module _ (count : Option Cell → ℕ) (a : Addr) (c : Option Cell) (cells : Addr → Option Cell) where
+  total_without : (all : List Addr) → occurrences a all ≡ 0 → total count (set_cell a c cells) all ≡ total count cells all
+  total_without [] none = refl
+  total_without (b ∷ bs) none = at (same_addr a b) none (λ n. total_without bs n) where
+    at : (g : Bool) → cond g 1 0 + occurrences a bs ≡ 0 → (occurrences a bs ≡ 0 → total count (set_cell a c cells) bs ≡ total count cells bs)
+        → count (cond g c (cells b)) + total count (set_cell a c cells) bs ≡ count (cells b) + total count cells bs
+    at true none rest = absurd (omega arith)
+    at false none rest = ap (λ (n : ℕ). count (cells b) + n) (rest (omega arith))
+
+  total_with : (all : List Addr) → occurrences a all ≡ 1 → total count (set_cell a c cells) all + count (cells a) ≡ total count cells all + count c
+  total_with [] once = absurd (omega arith)
+  total_with (b ∷ bs) once = at (same_addr a b) refl once (λ n. total_with bs n) where
+    at : (g : Bool) → same_addr a b ≡ g → cond g 1 0 + occurrences a bs ≡ 1 → (occurrences a bs ≡ 1 → total count (set_cell a c cells) bs + count (cells a) ≡ total count cells bs + count c)
+        → count (cond g c (cells b)) + total count (set_cell a c cells) bs + count (cells a) ≡ count (cells b) + total count cells bs + count c
+    at true is once rest =
+        let same : count (cells a) ≡ count (cells b) = ap (λ (z : Addr). count (cells z)) (addr_eq a b is) in
+        let others : total count (set_cell a c cells) bs ≡ total count cells bs = total_without bs (omega arith) in
+        omega arith
+    at false is once rest =
+        let others : total count (set_cell a c cells) bs + count (cells a) ≡ total count cells bs + count c = rest (omega arith) in
+        omega arith
+
+-- a total changes by what the one address changes
+pub total_set : (count : Option Cell → ℕ) (regions : List ℕ) (a : Addr) (c : Option Cell) (cells : Addr → Option Cell) → Rises regions → In a.region regions → a.offset < width
+    → total count (set_cell a c cells) (places regions) + count (cells a) ≡ total count cells (places regions) + count c
+total_set count regions a c cells rises there low = total_with count a c cells (places regions) (occurs_once a regions rises there low)
+
+-- what a collection makes of past
+
+past_is_max : (floor past : ℕ) (o : Option Cell) → past_collected floor o past ≡ max (past_collected floor o 0) past
+past_is_max floor past None = omega arith
+past_is_max floor past (Some c) = at (goes floor c) where
+  at : (g : Bool) → cond g (max c.bound past) past ≡ max (cond g (max c.bound 0) 0) past
+  at true = omega arith
+  at false = omega arith
+
+pub gone_cut : (floor : ℕ) (vs : List Version) → is_gone floor (cut floor vs) ≡ is_gone floor vs
+gone_cut floor [] = refl
+gone_cut floor (v ∷ vs) = at (leb v.0 floor) where
+  at : (g : Bool) → is_gone floor (cond g (v ∷ []) (v ∷ cut floor vs)) ≡ is_gone floor (v ∷ vs)
+  at true = refl
+  at false = refl
+
+-- a second collection takes nothing whole
+collected_once : (floor : ℕ) (o : Option Cell) → past_collected floor (collected floor o) 0 ≡ 0
+collected_once floor None = refl
+collected_once floor (Some c) = at (goes floor c) refl where
+  at : (g : Bool) → goes floor c ≡ g → past_collected floor (cond g None (Some (record c { versions = cut floor c.versions }))) 0 ≡ 0
+  at true is = refl
+  at false is = ap (λ (g : Bool). cond g (max c.bound 0) 0) (ap (λ (g : Bool). is_open c.lock && g) (gone_cut floor c.versions) ∙ is)
+
+module _ (floor : ℕ) (a : Addr) (cells : Addr → Option Cell) (past : ℕ) where
+  past_moved : (all : List Addr) → past_over floor (set_cell a (collected floor (cells a)) cells) all (past_collected floor (cells a) past) ≡ max (past_collected floor (cells a) 0) (past_over floor cells all past)
+  past_moved [] = past_is_max floor past (cells a)
+  past_moved (b ∷ bs) = at (same_addr a b) refl _ (past_moved bs) where
+    at : (g : Bool) → same_addr a b ≡ g → (later : ℕ) → later ≡ max (past_collected floor (cells a) 0) (past_over floor cells bs past)
+        → past_collected floor (cond g (collected floor (cells a)) (cells b)) later ≡ max (past_collected floor (cells a) 0) (past_collected floor (cells b) (past_over floor cells bs past))
+    at true is later rest =
+        let same : past_collected floor (cells a) 0 ≡ past_collected floor (cells b) 0 = ap (λ (z : Addr). past_collected floor (cells z) 0) (addr_eq a b is) in
+        omega (arith, collected_once floor (cells a), past_is_max floor later (collected floor (cells a)), past_is_max floor (past_over floor cells bs past) (cells b))
+    at false is later rest = omega (arith, past_is_max floor later (cells b), past_is_max floor (past_over floor cells bs past) (cells b))
+
+  past_reached : (all : List Addr) → occurrences a all ≡ 1 → past_collected floor (cells a) 0 ≤ past_over floor cells all past
+  past_reached [] once = absurd (omega arith)
+  past_reached (b ∷ bs) once = at (same_addr a b) refl once (λ n. past_reached bs n) where
+    at : (g : Bool) → same_addr a b ≡ g → cond g 1 0 + occurrences a bs ≡ 1 → (occurrences a bs ≡ 1 → past_collected floor (cells a) 0 ≤ past_over floor cells bs past)
+        → past_collected floor (cells a) 0 ≤ past_collected floor (cells b) (past_over floor cells bs past)
+    at true is once rest =
+        let same : past_collected floor (cells a) 0 ≡ past_collected floor (cells b) 0 = ap (λ (z : Addr). past_collected floor (cells z) 0) (addr_eq a b is) in
+        omega (arith, past_is_max floor (past_over floor cells bs past) (cells b))
+    at false is once rest =
+        let reached : past_collected floor (cells a) 0 ≤ past_over floor cells bs past = rest (omega arith) in
+        omega (arith, past_is_max floor (past_over floor cells bs past) (cells b))
+
+-- what was collected at one address raises past no more
+pub past_over_set : (floor : ℕ) (regions : List ℕ) (a : Addr) (cells : Addr → Option Cell) (past : ℕ) → Rises regions → In a.region regions → a.offset < width
+    → past_over floor (set_cell a (collected floor (cells a)) cells) (places regions) (past_collected floor (cells a) past) ≡ past_over floor cells (places regions) past
+past_over_set floor regions a cells past rises there low =
+    omega (arith, past_moved floor a cells past (places regions), past_reached floor a cells past (places regions) (occurs_once a regions rises there low))
+
+-- the total over all places is the sum over the entries of the map
+abbrev pub sum_of : (Cell → ℕ) → List (Addr × Cell) → ℕ
+sum_of count [] = 0
+sum_of count (e ∷ es) = count e.1 + sum_of count es
+
+abbrev cells_in : List (Addr × Cell) → Addr → Option Cell
+cells_in es a = lookup (is_at (addr_order a)) es
+
+-- the sum of no entries
+total_nothing : (count : Option Cell → ℕ) (all : List Addr) → count None ≡ 0 → total count (λ a. None) all ≡ 0
+total_nothing count [] none = refl
+total_nothing count (a ∷ rest) none = let others : total count (λ a. None) rest ≡ 0 = total_nothing count rest none in omega arith
+
+same_turned : (a b : Addr) → same_addr a b ≡ same_addr b a
+same_turned a b = at (same_addr a b) refl where
+  turned : (x y : Addr) → same_addr x y ≡ true → same_addr y x ≡ true
+  turned x y is = ap (λ (z : Addr). same_addr z x) (sym (addr_eq x y is)) ∙ same_self x
+
+  at : (g : Bool) → same_addr a b ≡ g → g ≡ same_addr b a
+  at true is = sym (turned a b is)
+  at false is = sym (false_from_ne_true (same_addr b a) (λ back. true≢false (sym (turned b a back) ∙ is)))
+
+-- the first entry is a change of what the others give
+cells_cons : (e : Addr × Cell) (es : List (Addr × Cell)) → cells_in (e ∷ es) ≡ set_cell e.0 (Some e.1) (cells_in es)
+cells_cons e es = λ i a. ap (λ (g : Bool). cond g (Some e.1) (cells_in es a)) (same_turned a e.0) i
+
+-- the key of the first entry is not among the others
+absent_behind : (a : Addr) (es : List (Addr × Cell)) → AllByRecursion (λ b. addr_order a b ≡ Less) (keys_of es) → cells_in es a ≡ None
+absent_behind a [] behind = refl
+absent_behind a (e ∷ es) behind = ap (λ (o : Ordering). cond (is_eq o) (Some e.1) (cells_in es a)) behind.0 ∙ absent_behind a es behind.1
+
+module _ (count : Option Cell → ℕ) (regions : List ℕ) (none : count None ≡ 0) (rises : Rises regions) where
+  total_listed : (es : List (Addr × Cell)) → IsStrictlySortedBy addr_order (keys_of es)
+      → ((a : Addr) (c : Cell) → cells_in es a ≡ Some c → In a.region regions × (a.offset < width)) → total count (cells_in es) (places regions) ≡ sum_of (λ c. count (Some c)) es
+  total_listed [] ordered placed = total_nothing count (places regions) none
+  total_listed (e ∷ es) ordered placed =
+      let here : In e.0.region regions × (e.0.offset < width) = placed e.0 e.1 (ap (λ (g : Bool). cond g (Some e.1) (cells_in es e.0)) (same_self e.0)) in
+      let first : total count (cells_in (e ∷ es)) (places regions) ≡ total count (set_cell e.0 (Some e.1) (cells_in es)) (places regions) = ap (λ (cells : Addr → Option Cell). total count cells (places regions)) (cells_cons e es) in
+      let change : total count (set_cell e.0 (Some e.1) (cells_in es)) (places regions) + count (cells_in es e.0) ≡ total count (cells_in es) (places regions) + count (Some e.1)
+      = total_set count regions e.0 (Some e.1) (cells_in es) rises here.0 here.1 in
+      let new : count (cells_in es e.0) ≡ 0 = ap count (absent_behind e.0 es (sorted_head addr_order e.0 (keys_of es) ordered)) ∙ none in
+      let others : total count (cells_in es) (places regions) ≡ sum_of (λ c. count (Some c)) es
+      = total_listed es (sorted_tail addr_order e.0 (keys_of es) ordered) (λ a c there. behind a c there (same_addr a e.0) refl) in
+      omega arith where
+        behind : (a : Addr) (c : Cell) → cells_in es a ≡ Some c → (g : Bool) → same_addr a e.0 ≡ g → In a.region regions × (a.offset < width)
+        behind a c there true is = placed a e.1 (ap (λ (g : Bool). cond g (Some e.1) (cells_in es a)) is)
+        behind a c there false is = placed a c (ap (λ (g : Bool). cond g (Some e.1) (cells_in es a)) is ∙ there)
+
+pub total_entries : (count : Option Cell → ℕ) (objects : BTreeMap Addr Cell) (regions : List ℕ) → count None ≡ 0 → IsOrdered addr_order objects → Rises regions
+    → ((a : Addr) (c : Cell) → cells_of objects a ≡ Some c → In a.region regions × (a.offset < width))
+    → total count (cells_of objects) (places regions) ≡ sum_of (λ c. count (Some c)) objects.entries
+total_entries count objects regions none ordered rises placed = total_listed count regions none rises objects.entries ordered placed

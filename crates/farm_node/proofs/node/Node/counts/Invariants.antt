@@ -1,0 +1,11 @@
+use Rattle.std.proofs.Common.{◌≡◌, ◌+◌, ◌^◌, ◌<◌}
+use Rattle.std.specs.BTreeMap.{values}
+use Rattle.farm_node.specs.Plain.{counted}
+use Rattle.farm_node.proofs.Counts.{lengths}
+use Rattle.farm_node.proofs.node.Node.counts.Given as goal
+
+abbrev pub invariant-loop-object : goal.invariant-loop-object
+invariant-loop-object l = record {
+  so : counted (l.versions + lengths l.object-iterator) ≡ counted (lengths (values l.self.objects));
+  small : l.versions < 2 ^ 64;
+}

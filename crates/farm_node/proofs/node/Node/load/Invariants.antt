@@ -1,0 +1,7 @@
+use Rattle.std.specs.Vec.Iter.{into_iter_items}
+use Rattle.farm_node.specs.Node.{plain_of}
+use Rattle.farm_node.proofs.Loads.{IsLoading}
+use Rattle.farm_node.proofs.node.Node.load.Given as goal
+
+abbrev pub invariant-loop-at : goal.invariant-loop-at
+invariant-loop-at l = IsLoading (plain_of l.fn.self) l.fn.objects.items (plain_of l.self) l.yielded (into_iter_items l.at-iterator)

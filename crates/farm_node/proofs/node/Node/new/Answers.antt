@@ -1,0 +1,9 @@
+use Rattle.object_region.specs.Regions.{occupancy_of}
+use Rattle.farm_node.proofs.CellMaps.{agrees_empty, tracked_empty}
+use Rattle.farm_node.proofs.node.Node.new.Goals as goal
+
+pub invariant_of-result-clause-agrees : goal.invariant_of-result-clause-agrees
+invariant_of-result-clause-agrees c = agrees_empty c.new.result (occupancy_of c.new-2.result) c.args.node c.args.nodes c.new.ensures.empty c.new-2.ensures
+
+pub invariant_of-result-clause-tracked : goal.invariant_of-result-clause-tracked
+invariant_of-result-clause-tracked c = tracked_empty c.new.result c.new-3.result.items c.new.ensures.empty

@@ -1,0 +1,10 @@
+pub mod Cell
+pub mod Plain
+pub mod Story
+pub mod Laws
+pub mod Puts
+pub mod Locks
+pub mod Answers
+pub mod State
+pub mod Node
+pub mod Standing

@@ -1,0 +1,102 @@
+-- What a node's fields stand for, and what holds of them at all times.
+use Rattle.std.specs.Prelude.{◌≡◌, ◌⊎◌, ℕ, ◌+◌, max, Bool, true, false, not, cond, ◌||◌, ◌++◌, List, [], ◌∷◌, Option, Some, None, slice_index_or, is_some}
+use Rattle.std.specs.List.{list_any}
+use Rattle.std.specs.BTreeMap.{BTreeMap, get}
+use Rattle.a1_base.specs.declared.place.Addr.{Addr}
+use Rattle.a1_base.specs.declared.place.TxnId.{TxnId}
+use Rattle.object_region.specs.Occupancy.{addr_order, same_addr, add_region, Occupancy, IsPlace}
+use Rattle.farm_node.specs.declared.swept.Swept.{Swept}
+use Rattle.farm_node.specs.Cell.{Bytes, Cell, is_settled, loaded_cell, locked_by, goes, collected, past_collected, versions_in}
+use Rattle.farm_node.specs.Plain.{Plain, set_cell, occupancy}
+
+-- the cell at each address
+abbrev pub cells_of : BTreeMap Addr Cell → Addr → Option Cell
+cells_of objects a = get addr_order objects a
+
+-- the state of the fields
+abbrev pub plain_from : BTreeMap Addr Cell → Occupancy → List (Option ℕ) → ℕ → ℕ → ℕ → Plain
+plain_from objects places pins past floor actors = record {
+  cells = cells_of objects;
+  regions = places.regions;
+  pins = λ k. slice_index_or pins k None;
+  past = past;
+  floor = floor;
+  node = places.node;
+  nodes = places.nodes;
+  actors = actors;
+}
+
+-- a place is taken where an object is there
+abbrev pub AgreesWith : BTreeMap Addr Cell → Occupancy → Type 0
+AgreesWith objects places = (a : Addr) → places.taken a ≡ is_some (cells_of objects a)
+
+abbrev pub is_settled_there : Option Cell → Bool
+is_settled_there None = false
+is_settled_there (Some c) = is_settled c
+
+abbrev pub settled_there : Option Cell → Bool
+settled_there None = true
+settled_there (Some c) = is_settled c
+
+-- whatever a collection could remove something of, stands in the list of touched addresses
+abbrev pub IsTracked : BTreeMap Addr Cell → List Addr → Type 0
+IsTracked objects touched = (a : Addr) → (settled_there (cells_of objects a) || list_any (same_addr a) touched) ≡ true
+
+-- an object more, by which its region is made
+abbrev pub with_cell : Addr → Cell → Plain → Plain
+with_cell a c p = record p { cells = set_cell a (Some c) p.cells; regions = add_region a.region p.regions }
+
+-- a lock that is given
+abbrev pub with_lock : Addr → TxnId → Option Bytes → Plain → Plain
+with_lock a t new p = record p { cells = set_cell a (locked_by t new (p.cells a)) p.cells }
+
+-- objects loaded one after another, each with one version at the stamp of the start, which is the floor until the
+-- first collection
+abbrev pub with_objects : Plain → List (Addr × Bytes) → Plain
+with_objects p [] = p
+with_objects p (x ∷ xs) = with_objects (with_cell x.0 (loaded_cell p.floor x.1) p) xs
+
+-- each object has a place of the node that is free when its turn comes, so no place stands twice
+abbrev pub CanLoad : Plain → List (Addr × Bytes) → Type 0
+CanLoad p [] = Unit {0}
+CanLoad p (x ∷ xs) = IsPlace (occupancy p) x.0 × (p.cells x.0 ≡ None) × CanLoad (with_cell x.0 (loaded_cell p.floor x.1) p) xs
+
+-- an object without a version
+abbrev pub is_new : Option Cell → Bool
+is_new None = false
+is_new (Some c) = elim c.versions as (λ _. Bool) [ [] ↦ true | v ∷ vs ↦ false ]
+
+-- without the object there; past rises to its bound
+abbrev pub given_back : Addr → Plain → Plain
+given_back a p = elim (p.cells a) as (λ _. Plain) [ None ↦ p | Some c ↦ record p { cells = set_cell a None p.cells; past = max p.past c.bound } ]
+
+-- collecting at one address
+
+abbrev pub goes_there : ℕ → Option Cell → Bool
+goes_there floor None = false
+goes_there floor (Some c) = goes floor c
+
+abbrev pub bound_there : Option Cell → ℕ
+bound_there None = 0
+bound_there (Some c) = c.bound
+
+abbrev pub past_with : Option ℕ → ℕ → ℕ
+past_with None past = past
+past_with (Some bound) past = max bound past
+
+-- what was removed of what was at an address: how many versions, the bound of an object that went, and whether the
+-- address has something left to remove some day
+pub record SweepsCell (floor : ℕ) (c : Option Cell) (swept : Swept) : Type 0 where
+  pub versions : swept.versions + versions_in (collected floor c) ≡ versions_in c
+  pub gone : swept.gone ≡ cond (goes_there floor c) (Some (bound_there c)) None
+  pub stays : swept.stays ≡ not (settled_there (collected floor c))
+
+-- a state in which one address was collected
+abbrev pub collected_at : ℕ → Addr → Plain → Plain
+collected_at floor a p = record p { cells = set_cell a (collected floor (p.cells a)) p.cells; past = past_collected floor (p.cells a) p.past }
+
+-- the next touched address was collected, and stands last where something is left
+abbrev pub SweepsNext : ℕ → List Addr → Plain → ℕ × Bool → List Addr → Plain → Type 0
+SweepsNext floor [] p result touched q = (q ≡ p) × (touched ≡ []) × (result ≡ (0, false))
+SweepsNext floor (a ∷ rest) p result touched q =
+    (q ≡ collected_at floor a p) × (result.0 + versions_in (q.cells a) ≡ versions_in (p.cells a)) × (result.1 ≡ goes_there floor (p.cells a)) × ((touched ≡ rest) ⊎ (touched ≡ rest ++ a ∷ []))

@@ -1,0 +1,555 @@
+//! A node and its events.
+ghost use Rattle.std.specs.Prelude.{◌≡◌, ◌+◌, ◌-◌, ◌<◌, ◌++◌, ◌∷◌, [], if◌then◌else◌, ℕ, true, false, Some, None, is_some, length, IfOk, IfSome, OnOk, OnErr, slice_index_or, vec_len};
+ghost use Rattle.std.specs.VecDeque.{deque_len, deque_capacity};
+ghost use Rattle.object_region.specs.Occupancy.{IsPlace, IsFree, with_place, without_place};
+ghost use Rattle.object_region.specs.Regions.{occupancy_of};
+ghost use Rattle.farm_node.specs.Cell.{collected};
+ghost use Rattle.farm_node.specs.Plain.{set_cell, lesser, least_pin};
+ghost use Rattle.farm_node.specs.State.{cells_of, AgreesWith, IsTracked, SweepsCell, goes_there, past_with};
+
+use crate::entry::{CheckFault, Collected, Found, Locked, Placed};
+use crate::faults::{LockFault, PlaceFault, ReadFault};
+use crate::object::Object;
+use crate::swept::Swept;
+use a1_base::{Addr, Bin, Memory, TxnId};
+use object_region::Places;
+use std::alloc::Global;
+use std::collections::{BTreeMap, VecDeque};
+
+/// A node: its objects, and what bars puts where no object is.
+#[derive(Drop)]
+pub struct Node {
+    objects: BTreeMap<Addr, Object>,
+    places: Places,
+    // The pin of each actor, by its number.
+    pins: Vec<Option<u64>>,
+    // Each address of which a collection could remove something.
+    touched: VecDeque<Addr>,
+    past: u64,
+    floor: u64,
+    actors: u32,
+    ghost agrees: { AgreesWith objects (occupancy_of places) },
+    ghost tracked: { IsTracked objects touched.items },
+    ghost numbered: { vec_len pins ≡ actors + 1 },
+}
+
+impl Node {
+    ghost use Rattle.std.specs.Prelude.{◌≤◌, ◌↔◌, ◌||◌, Ok, Err, take, IfErr};
+    ghost use Rattle.std.specs.List.{list_any};
+    ghost use Rattle.object_region.specs.Occupancy.{IsSpent, same_addr};
+    ghost use Rattle.farm_node.specs.declared.entry.Start.{Start};
+    ghost use Rattle.farm_node.specs.declared.entry.Entry.TheVariants.{Made, Open, Shut, Check, Put, Unlock, Collect};
+    ghost use Rattle.farm_node.specs.Cell.{made_by, loaded_cell, lock_answer, is_settled};
+    ghost use Rattle.farm_node.specs.Plain.{IsStamp, PinnedBy, HeldBy, MayLock, MayPut, Adds, occupancy, counted, object_count, version_count, after_collect};
+    ghost use Rattle.farm_node.specs.Answers.{Gives, read_entry, alloc_entry, lock_entry};
+    ghost use Rattle.farm_node.specs.State.{is_new, given_back, is_settled_there, with_cell, with_lock, with_objects, CanLoad, SweepsNext};
+    ghost use Rattle.farm_node.specs.Node.{plain_of, StandsFor};
+    ghost use Rattle.farm_node.specs.Standing.{with_heap};
+
+    /// The node number `node` of `nodes`, without objects, for actors from 1 to `actors`. Its stamps begin at `stamp`.
+    /// `Memory` comes for want of memory alone.
+    pub fn new(
+        alloc: Global,
+        node: u32,
+        nodes: u32,
+        actors: u32,
+        stamp: u64,
+    ) -> Result<Node, Memory>
+        requires nodes { nodes ≤ 16 }
+        requires node { node < nodes }
+        requires stamp { (0 < stamp) × IsStamp stamp }
+        ensures { IfOk result (λ n. StandsFor n (Made (record { node = node; nodes = nodes; actors = actors; stamp = stamp; heap = [] }) ∷ [])) }
+    {
+        let pins = no_pins(alloc, actors as usize + 1)?;
+        Ok(Node {
+            objects: BTreeMap::new(alloc),
+            places: Places::new(alloc, node, nodes),
+            pins,
+            touched: VecDeque::new(alloc),
+            past: stamp,
+            floor: stamp,
+            actors,
+        })
+    }
+
+    /// Pins the node for an actor at the greater of `c` and the floor, and answers that pin.
+    pub fn open(&mut self, actor: u32, c: u64) -> u64
+        requires actor { (0 < actor) × (actor ≤ (plain_of self.old).actors) }
+        requires free { (plain_of self.old).pins actor ≡ None }
+        requires stamp { IsStamp c }
+        ensures { Adds (plain_of self.old) (Open actor c result) (plain_of self.new) }
+    {
+        let pin = c.max(self.floor);
+        self.pins[actor as usize] = Some(pin);
+        pin
+    }
+
+    /// Takes an actor's pin away.
+    pub fn shut(&mut self, actor: u32)
+        requires pinned { (x : ℕ) × ((plain_of self.old).pins actor ≡ Some x) }
+        ensures { Adds (plain_of self.old) (Shut actor) (plain_of self.new) }
+    {
+        self.pins[actor as usize] = None;
+    }
+
+    /// Reads an address at the stamp `s`: the newest version at most `s`, absent with the stamp 0 where there is none.
+    /// It bars later puts up to `s`. `Held` comes exactly where a transaction holds the address and no version is above
+    /// `s`, `Memory` for want of memory alone; after either the node is as before.
+    pub fn read(&mut self, alloc: Global, actor: u32, at: Addr, s: u64) -> Result<Found, ReadFault>
+        requires pinned { PinnedBy (plain_of self.old) actor s }
+        requires stamp { IsStamp s }
+        ensures { Gives (plain_of self.old) (read_entry actor at s result) (plain_of self.new) }
+    {
+        match self.objects.get_mut(&at) {
+            Some(object) => object.read(alloc, s),
+            None => {
+                self.past = self.past.max(s);
+                Ok(Found {
+                    stamp: 0,
+                    value: None,
+                })
+            }
+        }
+    }
+
+    /// Makes an object for a transaction of the read stamp `r`, which then holds its lock, at the least free place of the
+    /// lowest made region that has one, else at the first place of the lowest region not made. The answer tells the place
+    /// and the bound: the greater of `r` and the stamp up to which puts at addresses without an object are barred.
+    /// `Spent` comes exactly where all places of the node are taken, `Memory` for want of memory alone; after either the
+    /// node is as before.
+    pub fn alloc(
+        &mut self,
+        alloc: Global,
+        t: TxnId,
+        r: u64,
+        bytes: Bin,
+    ) -> Result<Placed, PlaceFault>
+        requires pinned { PinnedBy (plain_of self.old) t.actor r }
+        requires stamp { IsStamp r }
+        ensures made { Gives (plain_of self.old) (alloc_entry t r bytes result) (plain_of self.new) }
+        ensures spent { (result ≡ Err PlaceFault.Spent) ↔ IsSpent (occupancy (plain_of self.old)) }
+    {
+        let Some(at) = self.places.least_free() else {
+            return Err(PlaceFault::Spent);
+        };
+        let bound = self.past.max(r);
+        match self.make(alloc, at, t, bytes, bound) {
+            Ok(()) => Ok(Placed { at, bound }),
+            Err(_) => Err(PlaceFault::Memory),
+        }
+    }
+
+    // Makes an object at a free place, locked by the transaction.
+    fn make(
+        &mut self,
+        alloc: Global,
+        at: Addr,
+        t: TxnId,
+        bytes: Bin,
+        bound: u64,
+    ) -> Result<(), Memory>
+        requires place { IsPlace (occupancy (plain_of self.old)) at }
+        requires free { (plain_of self.old).cells at ≡ None }
+        ensures ok { OnOk result (plain_of self.new ≡ with_cell at (made_by t bytes bound) (plain_of self.old)) }
+        ensures err { OnErr result (plain_of self.new ≡ plain_of self.old) }
+    {
+        let object = Object::made(alloc, t, bytes, bound)?;
+        self.touch(at)?;
+        self.insert(at, object)
+    }
+
+    // Puts an object at a free place. Its address is in the list of touched ones, or it is settled.
+    fn insert(&mut self, at: Addr, object: Object) -> Result<(), Memory>
+        requires place { IsPlace (occupancy (plain_of self.old)) at }
+        requires free { (plain_of self.old).cells at ≡ None }
+        requires tracked { (is_settled object || list_any (same_addr at) self.old.touched.items) ≡ true }
+        ensures ok { OnOk result (plain_of self.new ≡ with_cell at object (plain_of self.old)) }
+        ensures err { OnErr result (plain_of self.new ≡ plain_of self.old) }
+    {
+        insert_at(&mut self.objects, &mut self.places, at, object)
+    }
+
+    /// Loads objects before any event, each with one version at the stamp of the start. `Memory` comes for want of memory
+    /// alone; then a front of them is loaded.
+    pub fn load(&mut self, alloc: Global, objects: Vec<(Addr, Bin)>) -> Result<(), Memory>
+        requires places { CanLoad (plain_of self.old) objects.items }
+        requires stamp { 0 < (plain_of self.old).floor }
+        ensures ok { OnOk result (plain_of self.new ≡ with_objects (plain_of self.old) objects.items) }
+        ensures err { OnErr result ((k : ℕ) × (plain_of self.new ≡ with_objects (plain_of self.old) (take k objects.items))) }
+        ensures begins { (m : Start) → StandsFor self.old (Made m ∷ []) → OnOk result (StandsFor self.new (Made (with_heap m objects.items) ∷ [])) }
+    {
+        for (at, bytes) in objects {
+            self.load_one(alloc, at, bytes)?;
+        }
+        Ok(())
+    }
+
+    // Loads one object.
+    fn load_one(&mut self, alloc: Global, at: Addr, bytes: Bin) -> Result<(), Memory>
+        requires place { IsPlace (occupancy (plain_of self.old)) at }
+        requires free { (plain_of self.old).cells at ≡ None }
+        requires stamp { 0 < (plain_of self.old).floor }
+        ensures ok { OnOk result (plain_of self.new ≡ with_cell at (loaded_cell (plain_of self.old).floor bytes) (plain_of self.old)) }
+        ensures err { OnErr result (plain_of self.new ≡ plain_of self.old) }
+    {
+        let object = Object::loaded(alloc, self.floor, bytes)?;
+        self.insert(at, object)
+    }
+
+    /// Asks for the lock of an address, to install `new` under it, none for an object that goes. A transaction may lock
+    /// again what it holds from its own `alloc`. `Held` comes exactly where another transaction holds the address,
+    /// `Changed` exactly where no other does and its newest stamp is above `r`, `Memory` behind both and for want of
+    /// memory alone; after each the node is as before.
+    pub fn lock(
+        &mut self,
+        t: TxnId,
+        at: Addr,
+        r: u64,
+        new: Option<Bin>,
+    ) -> Result<Locked, LockFault>
+        requires pinned { PinnedBy (plain_of self.old) t.actor r }
+        requires stamp { IsStamp r }
+        requires may { MayLock (plain_of self.old) t at r }
+        ensures { Gives (plain_of self.old) (lock_entry t at r new result) (plain_of self.new) }
+    {
+        let (locked, settled) = self.ask_lock(t, at, r)?;
+        if settled {
+            self.touch(at)?;
+        }
+        self.hold(t, at, new)?;
+        Ok(locked)
+    }
+
+    // Whether the transaction may have the lock, and whether what is there is settled.
+    fn ask_lock(&self, t: TxnId, at: Addr, r: u64) -> Result<(Locked, bool), CheckFault>
+        ensures given { IfOk result (λ x. Ok x.0 ≡ lock_answer t r (cells_of self.now.objects at)) }
+        ensures settled { IfOk result (λ x. x.1 ≡ is_settled_there (cells_of self.now.objects at)) }
+        ensures fault { IfErr result (λ f. Err f ≡ lock_answer t r (cells_of self.now.objects at)) }
+    {
+        match self.objects.get(&at) {
+            Some(object) => {
+                let locked = object.lockable(t, r)?;
+                Ok((locked, object.is_settled()))
+            }
+            None => Ok((Locked { seen: 0, bound: 0 }, false)),
+        }
+    }
+
+    // Puts an address into the list of touched ones.
+    fn touch(&mut self, at: Addr) -> Result<(), Memory>
+        ensures objects { self.new.objects ≡ self.old.objects }
+        ensures plain { plain_of self.new ≡ plain_of self.old }
+        ensures there { OnOk result (list_any (same_addr at) self.new.touched.items ≡ true) }
+    {
+        match self.touched.push_back(at) {
+            Ok(()) => Ok(()),
+            Err(_) => Err(Memory),
+        }
+    }
+
+    // Locks an object whose address is in the list of touched ones.
+    fn hold(&mut self, t: TxnId, at: Addr, new: Option<Bin>) -> Result<(), Memory>
+        requires there { list_any (same_addr at) self.old.touched.items ≡ true }
+        ensures ok { OnOk result (plain_of self.new ≡ with_lock at t new (plain_of self.old)) }
+        ensures err { OnErr result (plain_of self.new ≡ plain_of self.old) }
+    {
+        match self.objects.get_mut(&at) {
+            Some(object) => object.hold(t, new),
+            None => Ok(()),
+        }
+    }
+
+    /// Whether what the transaction read at `r` still stands, on its way to commit at `w`: then puts up to `w` are
+    /// barred. `Held` comes exactly where another holds the address, `Changed` exactly where no other does and its newest
+    /// stamp is above `r`; after either the node is as before.
+    pub fn check(&mut self, t: TxnId, at: Addr, r: u64, w: u64) -> Result<(), CheckFault>
+        requires pinned { PinnedBy (plain_of self.old) t.actor r }
+        requires stamps { IsStamp r × IsStamp w }
+        requires not_own { HeldBy (plain_of self.old) t at → ⊥ }
+        ensures { Adds (plain_of self.old) (Check t at r w result) (plain_of self.new) }
+    {
+        match self.objects.get_mut(&at) {
+            Some(object) => object.check(r, w),
+            None => {
+                self.past = self.past.max(w);
+                Ok(())
+            }
+        }
+    }
+
+    /// Installs at the stamp `w`, above the bound, the value that waits, and unlocks the address.
+    pub fn put(&mut self, t: TxnId, at: Addr, w: u64)
+        requires may { MayPut (plain_of self.old) t at w }
+        requires stamp { IsStamp w }
+        ensures { Adds (plain_of self.old) (Put t at w) (plain_of self.new) }
+    {
+        if let Some(object) = self.objects.get_mut(&at) {
+            object.install(w);
+        }
+    }
+
+    /// Gives the lock of an address up. An object that its transaction made goes with it, and its place is free again.
+    pub fn unlock(&mut self, t: TxnId, at: Addr)
+        requires held { HeldBy (plain_of self.old) t at }
+        ensures { Adds (plain_of self.old) (Unlock t at) (plain_of self.new) }
+    {
+        if self.is_new(at) {
+            self.give_back(at);
+        } else if let Some(object) = self.objects.get_mut(&at) {
+            object.release();
+        }
+    }
+
+    // Whether an object is there that has no version yet.
+    fn is_new(&self, at: Addr) -> bool
+        ensures { result ≡ is_new (cells_of self.now.objects at) }
+    {
+        match self.objects.get(&at) {
+            Some(object) => object.is_new(),
+            None => false,
+        }
+    }
+
+    // Gives the place of an object back.
+    fn give_back(&mut self, at: Addr)
+        ensures { plain_of self.new ≡ given_back at (plain_of self.old) }
+    {
+        match take_object(&mut self.objects, at) {
+            Some(object) => {
+                self.past = self.past.max(object.bound());
+                self.places.give(at);
+            }
+            None => {}
+        }
+    }
+
+    /// Collects with the proposal `f`: the floor rises to the least of `f` and the pins, and never falls. The versions older
+    /// than the newest one at most the floor go, and so do the objects without a lock whose newest version is absent and
+    /// at most the floor; their places are free again. It takes time by the addresses that were locked since the last
+    /// collection, and by those that have old versions or are absent.
+    pub fn collect(&mut self, f: u64) -> Collected
+        requires stamp { IsStamp f }
+        ensures { (k : ℕ) → 0 < k → Adds (plain_of self.old) (Collect k f result) (plain_of self.new) }
+    {
+        let floor = self.floor.max(least_pin(self.pins.as_slice(), f));
+        let (versions, objects) = self.sweep(floor);
+        self.floor = floor;
+        Collected {
+            floor,
+            versions,
+            objects,
+        }
+    }
+
+    // Removes what a collection at this floor removes, and says how many versions and objects.
+    fn sweep(&mut self, floor: u64) -> (u64, u64)
+        ensures swept { after_collect floor (plain_of self.old) ≡ record (plain_of self.new) { floor = floor } }
+        ensures versions { result.0 ≡ counted (version_count (plain_of self.old) - version_count (plain_of self.new)) }
+        ensures objects { result.1 ≡ object_count (plain_of self.old) - object_count (plain_of self.new) }
+    {
+        let mut versions: u64 = 0;
+        let mut objects: u64 = 0;
+        if self.places.regions() == 0 {
+            return (versions, objects);
+        }
+        let count = self.touched.len();
+        for _ in 0..count {
+            let (removed, gone) = self.sweep_next(floor);
+            versions = versions.saturating_add(removed);
+            objects += u64::from(gone);
+        }
+        (versions, objects)
+    }
+
+    // Removes what a collection at this floor removes at the next touched address, and says how many versions, and
+    // whether the object went.
+    fn sweep_next(&mut self, floor: u64) -> (u64, bool)
+        ensures { SweepsNext floor self.old.touched.items (plain_of self.old) result self.new.touched.items (plain_of self.new) }
+    {
+        let Some(at) = self.touched.pop_front() else {
+            return (0, false);
+        };
+        let swept = sweep_at(&mut self.objects, at, floor);
+        give_place(&mut self.places, &mut self.past, at, swept.gone);
+        keep(&mut self.touched, at, swept.stays);
+        (swept.versions, swept.gone.is_some())
+    }
+
+    /// How many objects and versions there are; a count stands still at 2^64 - 1. It goes over all objects.
+    pub fn counts(&self) -> (u64, u64)
+        ensures objects { result.0 ≡ counted (object_count (plain_of self.now)) }
+        ensures versions { result.1 ≡ counted (version_count (plain_of self.now)) }
+    {
+        let mut versions: u64 = 0;
+        if self.places.regions() == 0 {
+            return (0, versions);
+        }
+        for object in self.objects.values() {
+            versions = versions.saturating_add(object.len());
+        }
+        (self.objects.len() as u64, versions)
+    }
+
+    /// How many regions are made.
+    pub fn regions(&self) -> u32
+        ensures { result ≡ length (plain_of self.now).regions }
+    {
+        self.places.regions()
+    }
+}
+
+// Puts an object at a free place.
+fn insert_at(
+    objects: &mut BTreeMap<Addr, Object>,
+    places: &mut Places,
+    at: Addr,
+    object: Object,
+) -> Result<(), Memory>
+    requires none { cells_of objects.old at ≡ None }
+    requires place { IsPlace (occupancy_of places.old) at }
+    requires free { IsFree (occupancy_of places.old) at }
+    ensures ok { OnOk result ((cells_of objects.new ≡ set_cell at (Some object) (cells_of objects.old)) × (occupancy_of places.new ≡ with_place at (occupancy_of places.old))) }
+    ensures err { OnErr result ((cells_of objects.new ≡ cells_of objects.old) × (occupancy_of places.new ≡ occupancy_of places.old)) }
+{
+    put_object(objects, at, object)?;
+    match places.claim(at) {
+        Ok(()) => Ok(()),
+        Err(memory) => {
+            take_object(objects, at);
+            Err(memory)
+        }
+    }
+}
+
+// Puts an object at an address that has none.
+fn put_object(objects: &mut BTreeMap<Addr, Object>, at: Addr, object: Object) -> Result<(), Memory>
+    requires { cells_of objects.old at ≡ None }
+    ensures ok { OnOk result (cells_of objects.new ≡ set_cell at (Some object) (cells_of objects.old)) }
+    ensures err { OnErr result (cells_of objects.new ≡ cells_of objects.old) }
+{
+    match objects.insert(at, object) {
+        Ok(_) => Ok(()),
+        Err(_) => Err(Memory),
+    }
+}
+
+// Takes the object of an address, if it has one.
+fn take_object(objects: &mut BTreeMap<Addr, Object>, at: Addr) -> Option<Object>
+    ensures object { result ≡ cells_of objects.old at }
+    ensures cells { cells_of objects.new ≡ set_cell at None (cells_of objects.old) }
+{
+    objects.remove(&at)
+}
+
+// Removes what a collection at this floor removes at an address.
+fn sweep_at(objects: &mut BTreeMap<Addr, Object>, at: Addr, floor: u64) -> Swept
+    ensures cells { cells_of objects.new ≡ set_cell at (collected floor (cells_of objects.old at)) (cells_of objects.old) }
+    ensures swept { SweepsCell floor (cells_of objects.old at) result }
+{
+    match gone_at(objects, at, floor) {
+        Some(swept) => {
+            take_object(objects, at);
+            swept
+        }
+        None => cut_at(objects, at, floor),
+    }
+}
+
+// What is removed of an object that a collection at this floor takes whole.
+fn gone_at(objects: &BTreeMap<Addr, Object>, at: Addr, floor: u64) -> Option<Swept>
+    ensures goes { is_some result ≡ goes_there floor (cells_of objects.now at) }
+    ensures swept { IfSome result (SweepsCell floor (cells_of objects.now at)) }
+{
+    let object = objects.get(&at)?;
+    if object.goes(floor) {
+        Some(Swept {
+            versions: object.len(),
+            gone: Some(object.bound()),
+            stays: false,
+        })
+    } else {
+        None
+    }
+}
+
+// Removes the old versions of an object that stays.
+fn cut_at(objects: &mut BTreeMap<Addr, Object>, at: Addr, floor: u64) -> Swept
+    requires { goes_there floor (cells_of objects.old at) ≡ false }
+    ensures cells { cells_of objects.new ≡ set_cell at (collected floor (cells_of objects.old at)) (cells_of objects.old) }
+    ensures swept { SweepsCell floor (cells_of objects.old at) result }
+{
+    match objects.get_mut(&at) {
+        Some(object) => {
+            let versions = object.cut(floor);
+            let stays = !object.is_settled();
+            Swept {
+                versions,
+                gone: None,
+                stays,
+            }
+        }
+        None => Swept {
+            versions: 0,
+            gone: None,
+            stays: false,
+        },
+    }
+}
+
+// Gives the place of an object of this bound back, where one went.
+fn give_place(places: &mut Places, past: &mut u64, at: Addr, gone: Option<u64>)
+    requires { is_some gone ≡ true → (occupancy_of places.old).taken at ≡ true }
+    ensures places { occupancy_of places.new ≡ (if is_some gone then without_place at (occupancy_of places.old) else occupancy_of places.old) }
+    ensures past { past.new ≡ past_with gone past.old }
+{
+    if let Some(bound) = gone {
+        *past = bound.max(*past);
+        places.give(at);
+    }
+}
+
+// Puts an address that stays behind the others, into the place that it left.
+fn keep(touched: &mut VecDeque<Addr>, at: Addr, stays: bool)
+    requires { deque_len touched.old < deque_capacity touched.old }
+    ensures { touched.new.items ≡ (if stays then touched.old.items ++ at ∷ [] else touched.old.items) }
+{
+    if stays {
+        touched.push_back_reserved(at);
+    }
+}
+
+// The least of a proposal and the pins of the actors from 1 on.
+fn least_pin(pins: &[Option<u64>], f: u64) -> u64
+    requires { 0 < length pins.now }
+    ensures { result ≡ least_pin f (λ k. slice_index_or pins.now k None) (length pins.now - 1) }
+{
+    let mut least = f;
+    for k in 0..pins.len() - 1 {
+        least = lesser(pins[k + 1], least);
+    }
+    least
+}
+
+// The lesser of a pin, where there is one, and a stamp.
+fn lesser(pin: Option<u64>, least: u64) -> u64
+    ensures { result ≡ lesser pin least }
+{
+    match pin {
+        Some(pin) => pin.min(least),
+        None => least,
+    }
+}
+
+// No pin for each of `count` actors.
+fn no_pins(alloc: Global, count: usize) -> Result<Vec<Option<u64>>, Memory>
+    ensures count { IfOk result (λ pins. vec_len pins ≡ count) }
+    ensures none { IfOk result (λ pins. (k : ℕ) → slice_index_or pins.items k None ≡ None) }
+{
+    let mut pins = Vec::with_capacity(alloc, count)?;
+    for _ in 0..count {
+        if pins.push(None).is_err() {
+            return Err(Memory);
+        }
+    }
+    Ok(pins)
+}

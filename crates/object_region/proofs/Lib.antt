@@ -1,0 +1,6 @@
+pub mod Fewer
+pub mod Keys
+pub mod Kept
+pub mod Occupied
+pub mod Next
+pub mod Taken
