@@ -10,3 +10,4 @@ pub mod Runs
 pub mod Grows
 pub mod Serial
 pub mod Answered
+pub mod Decided

@@ -1,5 +1,11 @@
 //! The laws of every run of the core, as public calls: each takes nothing, does nothing, and its contract is the law.
+ghost use Rattle.farm_core.specs.Decided.{OneRun};
 ghost use Rattle.farm_core.specs.Serial.{InEveryRun, ReadsWhole, SerialOrder, SnapshotsKept};
+
+/// A state and its events decide what is answered, and the state that is left.
+pub fn one_run()
+    ensures { OneRun }
+{}
 
 /// What a read was answered is the value at its transaction's read stamp in the whole of its node's list, and in every
 /// longer lawful list. Each node's list is lawful.

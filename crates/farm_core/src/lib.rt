@@ -9,4 +9,4 @@ mod event;
 mod laws;
 
 pub use event::{Answer, Event};
-pub use laws::{reads_whole, serial_order, snapshots_kept};
+pub use laws::{one_run, reads_whole, serial_order, snapshots_kept};
