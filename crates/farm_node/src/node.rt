@@ -16,6 +16,9 @@ use object_region::Places;
 use std::alloc::Global;
 use std::collections::{BTreeMap, VecDeque};
 
+#[cfg(test)]
+mod tests;
+
 /// A node: its objects, and what bars puts where no object is.
 #[derive(Drop)]
 pub struct Node {

@@ -62,8 +62,8 @@ impl Object {
         })
     }
 
-    // Who holds it.
-    fn holder(&self) -> Option<TxnId>
+    /// Who holds it.
+    pub fn holder(&self) -> Option<TxnId>
         ensures { result ≡ option_map (λ h. h.by) self.now.lock }
     {
         match &self.lock {
@@ -72,8 +72,8 @@ impl Object {
         }
     }
 
-    // What stands at the stamp `s`.
-    fn found(&self, alloc: Global, s: u64) -> Result<Found, Memory>
+    /// What stands at the stamp `s`. `Memory` comes for want of memory alone.
+    pub fn found(&self, alloc: Global, s: u64) -> Result<Found, Memory>
         ensures { IfOk result (λ found. found ≡ found_at s self.now.versions) }
     {
         match self.chain.at(s) {
