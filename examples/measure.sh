@@ -1,16 +1,17 @@
 #!/bin/sh
-# Times the built program, and takes its peak memory: on lines that are no request, 16 and 32 MiB of each kind, and on puts
-# of different names. Of five runs the middle one counts. Needs /usr/bin/time (GNU time) and awk.
+# Times the built program, and takes its peak memory: on lines that are no request, 16 and 32 MiB of each kind, on puts of
+# different names, and on events of transactions by 35 actors. Of five runs the middle one counts. Needs /usr/bin/time (GNU time) and awk.
 # Usage: sh examples/measure.sh [PROGRAM]
 program=${1:-crates/a1/out/a1}
 folder=$(mktemp -d) || exit 1
 trap 'rm -rf "$folder"' EXIT
+command=run
 
 measure() {
     bytes=$(wc -c < "$folder/script")
     lines=$(wc -l < "$folder/script")
     for run in 1 2 3 4 5; do
-        /usr/bin/time -f "%U %S %M" "$program" run < "$folder/script" 2>&1 > "$folder/text"
+        /usr/bin/time -f "%U %S %M" "$program" "$command" < "$folder/script" 2>&1 > "$folder/text"
     done | awk '{ printf "%.2f processor seconds, %d KiB\n", $1 + $2, $3 }' | sort -n | sed -n 3p | sed "s/^/$1: $bytes bytes, $lines lines, /"
 }
 
@@ -29,4 +30,29 @@ lines_of "requests of 1,000 bytes that are no JSON" "1 $(head -c 998 /dev/zero |
 for count in 100000 200000; do
     awk -v count="$count" 'BEGIN { for (i = 0; i < count; i++) printf "1 {\"do\":[{\"put\":{\"graph\":\"sys/names\",\"type\":\"name\",\"v\":{\"id\":\"n%d\"}}}]}\n", (i * 7919) % 1000003 }' > "$folder/script"
     measure "puts of different names"
+done
+
+# Rounds of 35 transactions side by side: each reads an object, locks another, and installs it where what it read still
+# stands. Each round collects on one node.
+events='function line(text) { if (n++ < count) print text }
+function place(i) { i %= objects; return i % 3 ":" int(i / 3) }
+BEGIN {
+    objects = 3000
+    for (i = 0; i < objects; i++) line("load " place(i) " " sprintf("%08x", i))
+    for (round = 1; n < count; round++) {
+        for (a = 1; a <= 35; a++) line("begin " a "." round)
+        for (a = 1; a <= 35; a++) line("read " a "." round " " place(round * 37 + a))
+        for (a = 1; a <= 35; a++) line("lock " a "." round " " place(round * 37 + a * 2) " " sprintf("%08x", round))
+        for (a = 1; a <= 35; a++) line("draw " a "." round)
+        for (a = 1; a <= 35; a++) line("check " a "." round " " place(round * 37 + a))
+        for (a = 1; a <= 35; a++) line("put " a "." round " " place(round * 37 + a * 2))
+        for (a = 1; a <= 35; a++) line("unlock " a "." round " " place(round * 37 + a * 2))
+        for (a = 1; a <= 35; a++) line("shut " a "." round)
+        line("collect " round % 3)
+    }
+}'
+command=steps
+for count in 200000 400000; do
+    awk -v count="$count" "$events" > "$folder/script"
+    measure "events of 35 actors"
 done

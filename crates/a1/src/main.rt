@@ -1,11 +1,14 @@
 //! The program: the top call over a source, a sink and a store, and `main`, which hands it the real ones.
 //!
 //! `a1` does all that the program does, and its contract is what the program promises. The layer turns words and bytes
-//! into a run and back; what a request means, and how a session is served, stands in the libraries.
+//! into a run or into events, and back; what a request means, how a session is served, and what an event is answered,
+//! stands in the libraries.
 #![tactic(auto)]
 
 mod edge;
+mod input;
 mod outcome;
+mod steps;
 mod store;
 mod streams;
 #[cfg(test)]

@@ -33,6 +33,14 @@ pub enum Ending {
     OutOfMemory,
     /// This line of the script breaks the grammar, which is written; 0 where the script is too long.
     Malformed(u64),
+    /// All answers to the events are written.
+    Stepped,
+    /// The sink failed in the answers.
+    StepsUnwritten,
+    /// This line is the first that is no event's, which is written; 0 where the text is too long.
+    StepsMalformed(u64),
+    /// This line is the first that is no event's, and the sink failed.
+    StepsLineUnwritten(u64),
 }
 
 impl Ending {
@@ -49,6 +57,10 @@ impl Ending {
             Ending::TextUnwritten => 4,
             Ending::OutOfMemory => OUT_OF_MEMORY,
             Ending::Malformed(_) => 8,
+            Ending::Stepped => 0,
+            Ending::StepsUnwritten => 4,
+            Ending::StepsMalformed(_) => 8,
+            Ending::StepsLineUnwritten(_) => 4,
         }
     }
 }

@@ -1,5 +1,6 @@
 //! The worked examples, over a source, a sink and a store in memory.
 mod slow;
+mod steps;
 
 use crate::outcome::Outcome;
 use crate::store::{MemStore, Store, StoreMiss};

@@ -1,5 +1,6 @@
 //! The top call.
-ghost use Rattle.std.specs.Prelude.{◌≡◌, ℕ, ◌≤◌, ◌⊎◌, List, [], ◌∷◌, Ok, Err, Some, IsOk, true, false, length, string_bytes, IfOk, IfErr, IfSome};
+ghost use Rattle.std.specs.Prelude.{◌≡◌, ℕ, ◌≤◌, ◌⊎◌, List, [], ◌∷◌, Ok, Err, Some, IsOk, true, false, length, String, IfOk, IfErr, IfSome};
+ghost use Rattle.std.specs.declared.alloc.Global.{Global};
 ghost use Rattle.std.specs.Io.KnownBytes.{append_known};
 ghost use Rattle.a1_base.specs.Outside.{Rose};
 ghost use Rattle.request_reader.specs.Graph.{opening};
@@ -7,42 +8,36 @@ ghost use Rattle.answer_text.specs.Transcript.{text_of};
 ghost use Rattle.answer_text.specs.Legal.{IsLegal};
 ghost use Rattle.run_text.specs.Script.{script_of, script_limit, request_count, asked_in};
 ghost use Rattle.run_text.specs.Run.{empty_run};
-ghost use Rattle.a1.specs.Outcome.{is_run, opening_stamp, usage_text, bad_line_text, status_of, IsRunOf, IsLegalRun, IsBadAt, Ends};
-ghost use Rattle.a1.specs.Parts.{IsInputFault, IsServed, SaysUsage, SaysLine, RunsScript};
+ghost use Rattle.farm_core.specs.declared.event.Event.{Event};
+ghost use Rattle.steps_text.specs.EventText.{IsTextOf, IsFaultOf};
+ghost use Rattle.steps_text.specs.declared.fault.TextFault.TheVariants.{Line};
+ghost use Rattle.a1.specs.Outcome.{is_word, is_run, is_steps, is_command, opening_stamp, usage_text, bad_line_text, steps_nodes, status_of, IsRunOf, IsLegalRun, IsBadAt, IsStepped, IsBadStep, Ends};
+ghost use Rattle.a1.specs.Parts.{IsInputFault, IsServed, SaysUsage, SaysMalformed, RunsScript};
 ghost use Rattle.a1.specs.declared.outcome.Ending.{Ending};
 
+use crate::input::{InputFault, SayFault, say_line, text_in};
 use crate::outcome::{Ending, Outcome};
+use crate::steps::serve_steps;
 use crate::store::Store;
-use crate::streams::{Input, ReadFault, read_all, write_all};
+use crate::streams::write_all;
 use a1_base::{Bin, Gate, Memory, Sink, Source};
 use answer_text::Transcript;
 use graph_plain::Plain;
 use run_text::{Run, Script, ScriptFault, transcript};
 use session::serve;
 use sqlite_items::Items;
-use std::alloc::{AllocError, Global};
+use std::alloc::Global;
 use std::sync::Wait;
 
 /// The stamp of the graph that a database begins with.
 const OPENING_STAMP: u64 = 1;
 
-/// Why there is no script to serve.
-#[derive(Clone, Copy)]
-pub enum InputFault {
-    /// The source failed.
-    Failed,
-    /// This line breaks the grammar; 0 where the script is too long.
-    Line(u64),
-    /// Want of memory.
-    Memory,
-}
-
-// Whether the words are `run` alone.
-fn is_run(words: &[String]) -> bool
-    ensures { result ≡ is_run words.now }
+// Whether the words are this one alone.
+fn is_word(words: &[String], text: &str) -> bool
+    ensures { result ≡ is_word text.now words.now }
 {
     match words {
-        [word] => word.as_str() == "run",
+        [word] => word.as_str() == text,
         _ => false,
     }
 }
@@ -54,17 +49,13 @@ fn script_in<R: Source>(alloc: Global, source: &mut R) -> Result<Script, InputFa
     ensures few { IfOk result (λ script. request_count script ≤ script_limit) }
     ensures alone { IfOk result (λ script. length script ≤ 1) }
     ensures end { IfOk result (λ script. IfSome (R.left source.old) (λ bytes. R.left source.new ≡ Some [])) }
-    ensures fault { IfErr result (IsInputFault (R.left source.old) (R.faults source.old) (R.faults source.new)) }
+    ensures fault { IfErr result (IsInputFault (IsBadAt (R.left source.old)) (R.faults source.old) (R.faults source.new)) }
 {
-    match read_all(alloc, source) {
-        Err(ReadFault::Failed) => Err(InputFault::Failed),
-        Err(ReadFault::Memory) => Err(InputFault::Memory),
-        Ok(Input::TooLong) => Err(InputFault::Line(0)),
-        Ok(Input::Whole(bytes)) => match run_text::read(alloc, bytes.as_slice()) {
-            Ok(script) => Ok(script),
-            Err(ScriptFault::Line(line)) => Err(InputFault::Line(line)),
-            Err(ScriptFault::Memory) => Err(InputFault::Memory),
-        },
+    let text = text_in(alloc, source)?;
+    match run_text::read(alloc, text.as_slice()) {
+        Ok(script) => Ok(script),
+        Err(ScriptFault::Line(line)) => Err(InputFault::Line(line)),
+        Err(ScriptFault::Memory) => Err(InputFault::Memory),
     }
 }
 
@@ -94,13 +85,6 @@ fn serve_script(alloc: Global, script: Script) -> Result<Items<Transcript>, Memo
     Ok(transcripts)
 }
 
-// The text about a line that breaks the grammar.
-fn line_text(alloc: Global, line: u64) -> Result<String, AllocError>
-    ensures { IfOk result (λ text. string_bytes text ≡ bad_line_text line) }
-{
-    format!(in alloc; "script {line}\n")
-}
-
 // Says that the words are no command.
 fn say_usage<W: Sink>(sink: &mut W) -> Ending
     ensures { SaysUsage (W.written sink.old) (W.written sink.new) (W.faults sink.old) (W.faults sink.new) result }
@@ -112,15 +96,13 @@ fn say_usage<W: Sink>(sink: &mut W) -> Ending
 }
 
 // Says that a line of the script breaks the grammar.
-fn say_line<W: Sink>(alloc: Global, sink: &mut W, line: u64) -> Ending
-    ensures { SaysLine (W.written sink.old) (W.written sink.new) (W.faults sink.old) (W.faults sink.new) line result }
+fn say_malformed<W: Sink>(alloc: Global, sink: &mut W, line: u64) -> Ending
+    ensures { SaysMalformed (W.written sink.old) (W.written sink.new) (W.faults sink.old) (W.faults sink.new) line result }
 {
-    let Ok(text) = line_text(alloc, line) else {
-        return Ending::OutOfMemory;
-    };
-    match write_all(sink, text.as_bytes()) {
+    match say_line(alloc, sink, line) {
         Ok(()) => Ending::Malformed(line),
-        Err(_) => Ending::LineUnwritten(line),
+        Err(SayFault::Failed) => Ending::LineUnwritten(line),
+        Err(SayFault::Memory) => Ending::OutOfMemory,
     }
 }
 
@@ -153,6 +135,27 @@ fn run_script<W: Sink>(alloc: Global, sink: &mut W, script: Script) -> (Ending, 
     }
 }
 
+// Serves the script that the source holds, and writes the transcript.
+fn serve_run<R: Source, W: Sink>(alloc: Global, source: &mut R, sink: &mut W) -> (Ending, Run)
+    ensures { (words : List (String Global)) → is_run words ≡ true → Ends words (record {
+      script = R.left source.old;
+      left = R.left source.new;
+      old = W.written sink.old;
+      new = W.written sink.new;
+      source_old = R.faults source.old;
+      source_new = R.faults source.new;
+      sink_old = W.faults sink.old;
+      sink_new = W.faults sink.new;
+    }) result.0 result.1 }
+{
+    match script_in(alloc, source) {
+        Ok(script) => run_script(alloc, sink, script),
+        Err(InputFault::Failed) => (Ending::Unread, Run::empty(alloc)),
+        Err(InputFault::Memory) => (Ending::OutOfMemory, Run::empty(alloc)),
+        Err(InputFault::Line(line)) => (say_malformed(alloc, sink, line), Run::empty(alloc)),
+    }
+}
+
 // How the command ends that the words name, and its run.
 fn command<R: Source, W: Sink>(
     alloc: Global,
@@ -171,23 +174,22 @@ fn command<R: Source, W: Sink>(
       sink_new = W.faults sink.new;
     }) result.0 result.1 }
 {
-    if !is_run(words) {
-        return (say_usage(sink), Run::empty(alloc));
+    if is_word(words, "run") {
+        return serve_run(alloc, source, sink);
     }
-    match script_in(alloc, source) {
-        Ok(script) => run_script(alloc, sink, script),
-        Err(InputFault::Failed) => (Ending::Unread, Run::empty(alloc)),
-        Err(InputFault::Memory) => (Ending::OutOfMemory, Run::empty(alloc)),
-        Err(InputFault::Line(line)) => (say_line(alloc, sink, line), Run::empty(alloc)),
+    if is_word(words, "steps") {
+        return (serve_steps(alloc, source, sink), Run::empty(alloc));
     }
+    (say_usage(sink), Run::empty(alloc))
 }
 
-/// Does all that the program does: reads the script that the source holds, serves its sessions from the graph that a
-/// database begins with, and writes the transcript. `words` are the words behind the program's name. The store is not
-/// touched, and the gate is not passed.
+/// Does all that the program does. `words` are the words behind the program's name. `run` reads the script that the
+/// source holds, serves its sessions from the graph that a database begins with, and writes the transcript. `steps`
+/// reads a text of events, answers them one after another from a new farm of three nodes on, and writes the answers; it
+/// leaves no run. The store is not touched, and the gate is not passed.
 ///
-/// The status is 0 where the whole transcript is written; 2 where the words are no command, with `usage` written; 3
-/// where a read failed, with nothing written; 8 where a line of the script breaks the grammar or the script is longer
+/// The status is 0 where the whole transcript is written, or all answers are; 2 where the words are no command, with
+/// `usage` written; 3 where a read failed, with nothing written; 8 where a line breaks the grammar or the text is longer
 /// than 33,554,432 bytes, with `script L` written, L the first such line from 1 or 0 for the size; 4 where a write failed
 /// or the sink took nothing of some bytes; 6 for want of memory.
 pub fn a1<T: Wait, R: Source, W: Sink, S: Store, G: Gate>(
@@ -211,8 +213,8 @@ pub fn a1<T: Wait, R: Source, W: Sink, S: Store, G: Gate>(
       sink_new = W.faults sink.new;
     }) e result.run) }
 
-    // The transcript is that of the script, from the opening graph at its stamp on; or there is no run.
-    ensures transcript { result.status ≡ 0 → IsRunOf (R.left source.old) result.run }
+    // The transcript of the command `run` is that of the script, from the opening graph at its stamp on; or there is no run.
+    ensures transcript { is_run words.now ≡ true → result.status ≡ 0 → IsRunOf (R.left source.old) result.run }
     ensures run_or_none { IsRunOf (R.left source.old) result.run ⊎ (result.run ≡ empty_run) }
     ensures no_run { ((result.status ≡ 2) ⊎ (result.status ≡ 3) ⊎ (result.status ≡ 8)) → result.run ≡ empty_run }
 
@@ -221,13 +223,18 @@ pub fn a1<T: Wait, R: Source, W: Sink, S: Store, G: Gate>(
 
     // What is read and written.
     ensures read_whole { result.status ≡ 0 → IfSome (R.left source.old) (λ bytes. R.left source.new ≡ Some []) }
-    ensures written { result.status ≡ 0 → W.written sink.new ≡ append_known (W.written sink.old) (text_of result.run.sessions) }
+    ensures written { is_run words.now ≡ true → result.status ≡ 0 → W.written sink.new ≡ append_known (W.written sink.old) (text_of result.run.sessions) }
     ensures usage_written { result.status ≡ 2 → W.written sink.new ≡ append_known (W.written sink.old) usage_text }
     ensures nothing_written { result.status ≡ 3 → W.written sink.new ≡ W.written sink.old }
-    ensures line_written { result.status ≡ 8 → (line : ℕ) × (IsBadAt (R.left source.old) line × (W.written sink.new ≡ append_known (W.written sink.old) (bad_line_text line))) }
+    ensures line_written { is_run words.now ≡ true → result.status ≡ 8 → (line : ℕ) × (IsBadAt (R.left source.old) line × (W.written sink.new ≡ append_known (W.written sink.old) (bad_line_text line))) }
+
+    // The command `steps` writes the answers to the events of the text, from a new farm on; it has no run.
+    ensures steps_written { is_steps words.now ≡ true → result.status ≡ 0 → (text : List ℕ) × (IsStepped (R.left source.old) text × (W.written sink.new ≡ append_known (W.written sink.old) text)) }
+    ensures steps_line_written { is_steps words.now ≡ true → result.status ≡ 8 → (line : ℕ) × (IsBadStep (R.left source.old) line × (W.written sink.new ≡ append_known (W.written sink.old) (bad_line_text line))) }
+    ensures steps_no_run { is_steps words.now ≡ true → result.run ≡ empty_run }
 
     // Each fault has its cause.
-    ensures usage { result.status ≡ 2 → is_run words.now ≡ false }
+    ensures usage { result.status ≡ 2 → is_command words.now ≡ false }
     ensures unread { result.status ≡ 3 → Rose (R.faults source.old) (R.faults source.new) }
     ensures unwritten { result.status ≡ 4 → Rose (W.faults sink.old) (W.faults sink.new) }
 
@@ -236,7 +243,11 @@ pub fn a1<T: Wait, R: Source, W: Sink, S: Store, G: Gate>(
         → ¬ Rose (R.faults source.old) (R.faults source.new) → ¬ Rose (W.faults sink.old) (W.faults sink.new) → (result.status ≡ 0) ⊎ (result.status ≡ 6) }
     ensures malformed { (bytes : List ℕ) (line : ℕ) → is_run words.now ≡ true → R.left source.old ≡ Some bytes → script_of bytes ≡ Err line
         → ¬ Rose (R.faults source.old) (R.faults source.new) → ¬ Rose (W.faults sink.old) (W.faults sink.new) → (result.status ≡ 8) ⊎ (result.status ≡ 6) }
-    ensures other_words { is_run words.now ≡ false → ¬ Rose (W.faults sink.old) (W.faults sink.new) → (result.status ≡ 2) ⊎ (result.status ≡ 6) }
+    ensures steps_whole { (bytes : List ℕ) (events : List Event) → is_steps words.now ≡ true → R.left source.old ≡ Some bytes → IsTextOf steps_nodes bytes events
+        → ¬ Rose (R.faults source.old) (R.faults source.new) → ¬ Rose (W.faults sink.old) (W.faults sink.new) → (result.status ≡ 0) ⊎ (result.status ≡ 6) }
+    ensures steps_malformed { (bytes : List ℕ) (line : ℕ) → is_steps words.now ≡ true → R.left source.old ≡ Some bytes → IsFaultOf steps_nodes bytes (Line line)
+        → ¬ Rose (R.faults source.old) (R.faults source.new) → ¬ Rose (W.faults sink.old) (W.faults sink.new) → (result.status ≡ 8) ⊎ (result.status ≡ 6) }
+    ensures other_words { is_command words.now ≡ false → ¬ Rose (W.faults sink.old) (W.faults sink.new) → (result.status ≡ 2) ⊎ (result.status ≡ 6) }
 
     // The store stays as it was.
     ensures store { S.items store.new ≡ S.items store.old }

@@ -5,8 +5,9 @@ use Rattle.std.specs.BTreeMap.{BTreeMap, get}
 use Rattle.a1_base.specs.declared.place.Addr.{Addr}
 use Rattle.a1_base.specs.declared.place.TxnId.{TxnId}
 use Rattle.object_region.specs.Occupancy.{addr_order, same_addr, add_region, Occupancy, IsPlace}
+use Rattle.farm_node.specs.declared.hold.Hold.{Hold}
 use Rattle.farm_node.specs.declared.swept.Swept.{Swept}
-use Rattle.farm_node.specs.Cell.{Bytes, Cell, is_settled, loaded_cell, locked_by, goes, collected, past_collected, versions_in}
+use Rattle.farm_node.specs.Cell.{Bytes, Cell, same_txn, found_at, is_settled, loaded_cell, locked_by, goes, collected, past_collected, versions_in}
 use Rattle.farm_node.specs.Plain.{Plain, set_cell, occupancy}
 
 -- the cell at each address
@@ -65,6 +66,24 @@ CanLoad p (x ∷ xs) = IsPlace (occupancy p) x.0 × (p.cells x.0 ≡ None) × Ca
 abbrev pub is_new : Option Cell → Bool
 is_new None = false
 is_new (Some c) = elim c.versions as (λ _. Bool) [ [] ↦ true | v ∷ vs ↦ false ]
+
+-- the transaction has the lock
+abbrev pub has_lock : TxnId → Option Hold → Bool
+has_lock t None = false
+has_lock t (Some h) = same_txn h.by t
+
+abbrev pub holds_there : TxnId → Option Cell → Bool
+holds_there t None = false
+holds_there t (Some c) = has_lock t c.lock
+
+-- there is a value at r
+abbrev pub has_value : ℕ → Cell → Bool
+has_value r c = is_some (found_at r c.versions).value
+
+-- the transaction may ask for the lock
+abbrev pub may_lock : TxnId → ℕ → Option Cell → Bool
+may_lock t r None = false
+may_lock t r (Some c) = cond (has_lock t c.lock) (is_new (Some c)) (has_value r c)
 
 -- without the object there; past rises to its bound
 abbrev pub given_back : Addr → Plain → Plain

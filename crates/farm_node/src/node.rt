@@ -45,7 +45,7 @@ impl Node {
     ghost use Rattle.farm_node.specs.Cell.{made_by, loaded_cell, lock_answer, is_settled};
     ghost use Rattle.farm_node.specs.Plain.{IsStamp, PinnedBy, HeldBy, MayLock, MayPut, Adds, occupancy, counted, object_count, version_count, after_collect};
     ghost use Rattle.farm_node.specs.Answers.{Gives, read_entry, alloc_entry, lock_entry};
-    ghost use Rattle.farm_node.specs.State.{is_new, given_back, is_settled_there, with_cell, with_lock, with_objects, CanLoad, SweepsNext};
+    ghost use Rattle.farm_node.specs.State.{is_new, given_back, is_settled_there, holds_there, may_lock, with_cell, with_lock, with_objects, CanLoad, SweepsNext};
     ghost use Rattle.farm_node.specs.Node.{plain_of, StandsFor};
     ghost use Rattle.farm_node.specs.Standing.{with_heap};
 
@@ -187,8 +187,9 @@ impl Node {
         Ok(())
     }
 
-    // Loads one object.
-    fn load_one(&mut self, alloc: Global, at: Addr, bytes: Bin) -> Result<(), Memory>
+    /// Loads one object before any event, with one version at the stamp of the start. `Memory` comes for want of memory
+    /// alone, and leaves the node as it was.
+    pub fn load_one(&mut self, alloc: Global, at: Addr, bytes: Bin) -> Result<(), Memory>
         requires place { IsPlace (occupancy (plain_of self.old)) at }
         requires free { (plain_of self.old).cells at ≡ None }
         requires stamp { 0 < (plain_of self.old).floor }
@@ -197,6 +198,34 @@ impl Node {
     {
         let object = Object::loaded(alloc, self.floor, bytes)?;
         self.insert(at, object)
+    }
+
+    /// Whether an object is at an address.
+    pub fn has_object(&self, at: Addr) -> bool
+        ensures { result ≡ is_some ((plain_of self.now).cells at) }
+    {
+        self.objects.contains_key(&at)
+    }
+
+    /// Whether the transaction has the lock of an address.
+    pub fn holds(&self, t: TxnId, at: Addr) -> bool
+        ensures { result ≡ holds_there t ((plain_of self.now).cells at) }
+    {
+        match self.objects.get(&at) {
+            Some(object) => object.is_held_by(t),
+            None => false,
+        }
+    }
+
+    /// Whether the transaction, of the read stamp `r`, may ask for the lock of an address: there is a value at `r` and it
+    /// does not hold the address, or it holds it from its own `alloc`.
+    pub fn may_lock(&self, t: TxnId, at: Addr, r: u64) -> bool
+        ensures { result ≡ may_lock t r ((plain_of self.now).cells at) }
+    {
+        match self.objects.get(&at) {
+            Some(object) => object.may_lock(t, r),
+            None => false,
+        }
     }
 
     /// Asks for the lock of an address, to install `new` under it, none for an object that goes. A transaction may lock

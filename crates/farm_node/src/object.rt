@@ -3,6 +3,7 @@ ghost use Rattle.std.specs.Prelude.{◌≡◌, ◌<◌, ◌↔◌, max, [], true
 ghost use Rattle.version_chain.specs.Versions.{cut};
 ghost use Rattle.farm_node.specs.Cell.{Cell, found_at, made_by, loaded_cell, unless_changed, lock_answer, check_answer, locked_by, installed, is_open, is_newest_absent, is_settled, goes};
 ghost use Rattle.farm_node.specs.Answers.{ReadsCell};
+ghost use Rattle.farm_node.specs.State.{has_lock, has_value, may_lock};
 
 use crate::entry::{CheckFault, Found, Locked};
 use crate::faults::ReadFault;
@@ -69,6 +70,37 @@ impl Object {
         match &self.lock {
             Some(hold) => Some(hold.by),
             None => None,
+        }
+    }
+
+    /// Whether the transaction has its lock.
+    pub fn is_held_by(&self, t: TxnId) -> bool
+        ensures { result ≡ has_lock t self.now.lock }
+    {
+        match self.holder() {
+            Some(by) => by == t,
+            None => false,
+        }
+    }
+
+    // Whether there is a value at the stamp `r`.
+    fn has_value(&self, r: u64) -> bool
+        ensures { result ≡ has_value r self.now }
+    {
+        match self.chain.at(r) {
+            Some((_, value)) => value.is_some(),
+            None => false,
+        }
+    }
+
+    /// Whether the transaction, of the read stamp `r`, may ask for its lock.
+    pub fn may_lock(&self, t: TxnId, r: u64) -> bool
+        ensures { result ≡ may_lock t r (Some self.now) }
+    {
+        if self.is_held_by(t) {
+            self.is_new()
+        } else {
+            self.has_value(r)
         }
     }
 

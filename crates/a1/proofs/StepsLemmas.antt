@@ -1,0 +1,37 @@
+-- Events of a farm, and the text of events.
+use Rattle.std.proofs.Common.{inl, inr, ℕ, List, [], ◌∷◌, Result, Ok, Err, sym, subst, arith}
+use Rattle.std.specs.Prelude.{IfOk}
+use Rattle.std.specs.List.{All, AllByRecursion}
+use Rattle.std.proofs.lemmas.List.Elements.{All-from_recursion}
+use Rattle.farm_core.specs.Machine.{State, fresh, InRange, Runs}
+use Rattle.farm_core.specs.Cores.{CoreStands, node_count}
+use Rattle.farm_core.specs.declared.run.Core.{Core}
+use Rattle.farm_core.specs.declared.event.Event.{Event}
+use Rattle.farm_core.specs.declared.event.Answer.{Answer}
+use Rattle.steps_text.specs.EventText.{IsEvent, IsTextOf, IsFaultOf}
+use Rattle.steps_text.specs.declared.fault.TextFault.TheVariants.{Line}
+use Rattle.steps_text.proofs.OneReading.{not_broken}
+use Rattle.a1.specs.Outcome.{steps_nodes}
+use Rattle.a1.specs.Parts.{AreAnswers}
+
+-- ---- what a farm takes
+
+each_in_range : (nodes : ℕ) (events : List Event) → AllByRecursion (IsEvent nodes) events → AllByRecursion (InRange nodes) events
+each_in_range nodes [] each = tt
+each_in_range nodes (e ∷ es) each = (each.0.0, each_in_range nodes es each.1)
+
+-- a core that stands for the fresh farm takes the events of a farm of as many nodes
+pub takes_events : (core : Core) (nodes : ℕ) (events : List Event) → CoreStands core (fresh nodes) → AllByRecursion (IsEvent nodes) events → All (InRange (node_count core)) events
+takes_events core nodes events stands each = subst (λ n. All (InRange n) events) (sym stands.nodes_stand.number) (All-from_recursion (InRange nodes) events (each_in_range nodes events each))
+
+-- the answers of a run from the fresh farm on
+pub if_answered : {V E : Type 0} (r : Result V E) (items : V → List Answer) (core : Core) (events : List Event)
+    → IfOk r (λ v. (later : State) × Runs (fresh steps_nodes) events (items v) later × CoreStands core later) → IfOk r (λ v. AreAnswers events (items v))
+if_answered (Ok v) items core events ran = (ran.0, ran.1)
+if_answered (Err e) items core events ran = ran
+
+-- ---- a text of events has no line that is no event's
+
+pub text_not_broken : (bytes : List ℕ) (events : List Event) (line : ℕ) → IsTextOf steps_nodes bytes events → IsFaultOf steps_nodes bytes (Line line) → ⊥
+text_not_broken bytes events line text (inl long) = omega (arith, text.short, long.0)
+text_not_broken bytes events line text (inr broken) = not_broken steps_nodes events broken.events bytes broken.rest text.each text.lines broken.breaks

@@ -1,0 +1,136 @@
+-- What the farm stands for after a step.
+use Rattle.std.proofs.Common.{◌≡◌, ◌≢◌, ℕ, ◌<◌, ◌≤◌, eqb, cond, Bool, true, false, List, [], ◌∷◌, ◌++◌, length, get_or, get_or-set_other, get_or-set_same, Option, Some, None, Result, Ok, Err, sym, refl, ap, ◌∙◌, subst, ⊎_elim, arith}
+use Rattle.std.proofs.Math.ListN.{set, length-set}
+use Rattle.std.proofs.lemmas.Bool.{eqb-true, eqb-false, lt-ltb}
+use Rattle.a1_base.specs.declared.Memory.{Memory}
+use Rattle.a1_base.specs.declared.place.Addr.{Addr}
+use Rattle.a1_base.specs.declared.place.TxnId.{TxnId}
+use Rattle.farm_node.specs.declared.node.Node.{Node}
+use Rattle.farm_node.specs.declared.entry.Entry.{Entry}
+use Rattle.farm_node.specs.Cell.{same_txn}
+use Rattle.farm_node.specs.Plain.{Plain, HeldBy, Adds, after, replay}
+use Rattle.farm_node.proofs.Sound.{txn_eq}
+use Rattle.farm_core.specs.declared.event.Event.{Event}
+use Rattle.farm_core.specs.declared.event.Event.TheVariants.{Load, Begin, Read, Alloc, Lock, Draw, Check, Put, Unlock, Shut, Collect}
+use Rattle.farm_core.specs.declared.event.Answer.{Answer}
+use Rattle.farm_core.specs.declared.active.Active.{Active}
+use Rattle.farm_core.specs.declared.farm.Slot.{Slot}
+use Rattle.farm_core.specs.declared.farm.Farm.{Farm}
+use Rattle.farm_core.specs.Machine.{Transaction, State, home, node_at, adding_to_all, HoldsLockAt, Steps, IsActor, InRange, Runs, fresh}
+use Rattle.farm_core.specs.Standing.{Reached, plains, NodesStand, StandsOpen, in_list, Aside, Stepped, IsOf}
+use Rattle.farm_core.specs.Farms.{OpenStands, SlotStands, SlotAt, Stands, StepsTo}
+use Rattle.farm_core.proofs.Good.{Good}
+use Rattle.farm_core.proofs.Events.{less_home}
+use Rattle.farm_core.proofs.Changes.{Takes, held_after, node_added}
+
+-- one event more
+
+pub runs_more : (events : List Event) (start : State) (answers : List Answer) (s : State) (e : Event) (x : Answer) (later : State) → Runs start events answers s → InRange s.nodes e → Steps s e x later
+    → Runs start (events ++ e ∷ []) (answers ++ x ∷ []) later
+runs_more [] start [] s e x later runs range steps =
+    subst (λ (z : State). InRange z.nodes e → Steps z e x later → Runs start (e ∷ []) (x ∷ []) later) (sym runs) (λ r st. (r, (later, st, refl))) range steps
+runs_more [] start (y ∷ ys) s e x later runs range steps = absurd runs
+runs_more (f ∷ fs) start [] s e x later runs range steps = absurd runs
+runs_more (f ∷ fs) start (y ∷ ys) s e x later runs range steps =
+    let next = runs.1 in
+    (runs.0, (next.0, next.1, runs_more fs next.0 ys s e x later next.2 range steps))
+
+pub reached_more : (s : State) (e : Event) (x : Answer) (later : State) → Reached s → InRange s.nodes e → Steps s e x later → later.nodes ≡ s.nodes → Reached later
+reached_more s e x later r range steps same =
+    subst (λ (n : ℕ). (0 < n) × (n ≤ 16) × ((events : List Event) × (answers : List Answer) × Runs (fresh n) events answers later)) (sym same)
+    (r.0, r.1, (r.2.0 ++ e ∷ [], r.2.1 ++ x ∷ [], runs_more r.2.0 (fresh s.nodes) r.2.1 s e x later r.2.2 range steps))
+
+-- a slot that an event leaves alone
+
+pub slot_kept : (slot : Slot) (k : ℕ) (s later : State) → later.begins k ≡ s.begins k → ((u : TxnId) → u.actor ≡ k → later.transactions u ≡ s.transactions u)
+    → ((u : TxnId) (a : Addr) → u.actor ≡ k → HoldsLockAt later u a → HoldsLockAt s u a) → SlotStands slot k s → SlotStands slot k later
+slot_kept slot k s later begins others held stands = record { begins = stands.begins ∙ sym begins; current = by slot.open stands.current } where
+  by : (o : Option Active) → OpenStands o k s → OpenStands o k later
+  by None none = λ u is. ap (λ (x : Transaction). x.is_open) (others u is) ∙ none u is
+  by (Some x) now =
+      let t : TxnId = record { actor = k; number = s.begins k } in
+      let moved : StandsOpen x (later.transactions t) × ((a : Addr) → HoldsLockAt later t a → in_list a x.locked.items ≡ true) =
+      (subst (StandsOpen x) (sym (others t refl)) now.0, λ a has. now.1 a (held t a refl has)) in
+      subst (λ (n : ℕ). let u : TxnId = record { actor = k; number = n } in StandsOpen x (later.transactions u) × ((a : Addr) → HoldsLockAt later u a → in_list a x.locked.items ≡ true)) (sym begins) moved
+
+pub another : (t u : TxnId) (k : ℕ) → t.actor ≢ k → u.actor ≡ k → same_txn t u ≡ false
+another t u k differ is = by (same_txn t u) refl where
+  by : (b : Bool) → same_txn t u ≡ b → same_txn t u ≡ false
+  by true same = absurd (differ (ap (λ (v : TxnId). v.actor) (txn_eq t u same) ∙ is))
+  by false same = same
+
+-- an event of a transaction
+
+pub actor_of : (nodes : ℕ) (t : TxnId) (e : Event) → IsOf t e → InRange nodes e → IsActor t
+actor_of nodes t (Load a bytes) own range = absurd own
+actor_of nodes t (Begin u) own range = absurd own
+actor_of nodes t (Read u a) own range = subst IsActor own range.0
+actor_of nodes t (Alloc u n bytes) own range = subst IsActor own range.0
+actor_of nodes t (Lock u a new) own range = subst IsActor own range.0
+actor_of nodes t (Draw u) own range = subst IsActor own range
+actor_of nodes t (Check u a) own range = subst IsActor own range.0
+actor_of nodes t (Put u a) own range = subst IsActor own range.0
+actor_of nodes t (Unlock u a) own range = subst IsActor own range.0
+actor_of nodes t (Shut u) own range = absurd own
+actor_of nodes t (Collect n) own range = absurd own
+
+module _ (farm : Farm) (s : State) (st : Stands farm s) (t : TxnId) (actor : IsActor t) where
+  pub slot_there : t.actor < length farm.slots.items
+  slot_there = let count : length farm.slots.items ≡ 36 = st.count in let high : t.actor ≤ 35 = actor.1 in omega arith
+
+  pub slot_at : (slot : Slot) (nodes : List Node) → slot ≡ get_or farm.slots.items t.actor slot → nodes ≡ farm.nodes.items → SlotAt slot nodes farm.clock t s
+  slot_at slot nodes is same = record {
+    nodes_stand = subst (λ (ns : List Node). NodesStand ns s.nodes s.logs) (sym same) st.nodes_stand;
+    clock_is = st.clock_is;
+    slot_stands = subst (λ (z : Slot). SlotStands z t.actor s) (sym is) (st.slots_stand t.actor slot actor.0 actor.1);
+  }
+
+  -- the actor's slot is another, and the others are as they were
+  pub slots_after : (slot : Slot) (later : State) → SlotStands slot t.actor later → ((k : ℕ) (old : Slot) → t.actor ≢ k → SlotStands old k s → SlotStands old k later)
+      → (k : ℕ) (d : Slot) → 0 < k → k ≤ 35 → SlotStands (get_or (set farm.slots.items t.actor slot) k d) k later
+  slots_after slot later own kept k d low high = by (eqb t.actor k) refl where
+    by : (b : Bool) → eqb t.actor k ≡ b → SlotStands (get_or (set farm.slots.items t.actor slot) k d) k later
+    by true is =
+        let same : t.actor ≡ k = eqb-true t.actor k is in
+        subst (λ (j : ℕ). SlotStands (get_or (set farm.slots.items t.actor slot) j d) j later) same
+        (subst (λ (z : Slot). SlotStands z t.actor later) (sym (get_or-set_same farm.slots.items t.actor slot d slot_there)) own)
+    by false is =
+        let differ : t.actor ≢ k = eqb-false t.actor k is in
+        subst (λ (z : Slot). SlotStands z k later) (sym (get_or-set_other farm.slots.items t.actor k slot d (λ same. differ (sym same))))
+        (kept k (get_or farm.slots.items k d) differ (st.slots_stand k d low high))
+
+  pub farm_stepped : (e : Event) → InRange s.nodes e → (slot : Slot) (nodes : List Node) (clock : ℕ) (after : Farm) → after.nodes.items ≡ nodes → after.clock ≡ clock → after.loading ≡ farm.loading
+      → after.slots.items ≡ set farm.slots.items t.actor slot → (result : Result Answer Memory) → Stepped t s e result (SlotAt slot nodes clock t) → StepsTo s e result (Stands after)
+  farm_stepped e range slot nodes clock after nodes_are clock_is loading_is slots_are = by where
+    stands : (later : State) → Reached later → Aside t s later → SlotAt slot nodes clock t later → Stands after later
+    stands later r aside at = record {
+      reached = r;
+      clock_is = clock_is ∙ at.clock_is;
+      loading_is = loading_is ∙ (st.loading_is ∙ sym aside.loading);
+      nodes_stand = subst (λ (ns : List Node). NodesStand ns later.nodes later.logs) (sym nodes_are) at.nodes_stand;
+      count = ap length slots_are ∙ (length-set farm.slots.items t.actor slot ∙ st.count);
+      slots_stand = subst (λ (all : List Slot). (k : ℕ) (d : Slot) → 0 < k → k ≤ 35 → SlotStands (get_or all k d) k later) (sym slots_are)
+          (slots_after slot later at.slot_stands (λ k old differ was. slot_kept old k s later (ap (λ (b : ℕ → ℕ). b k) aside.begins)
+          (λ u is. aside.others u (another t u k differ is)) (λ u a is. aside.held u a (another t u k differ is)) was));
+    }
+
+    by : (result : Result Answer Memory) → Stepped t s e result (SlotAt slot nodes clock t) → StepsTo s e result (Stands after)
+    by (Ok x) stepped = (stepped.0, stepped.1, stands stepped.0 (reached_more s e x stepped.0 st.reached range stepped.1 stepped.2.nodes) stepped.2 stepped.3)
+    by (Err m) stepped = stands s st.reached (record { nodes = refl; begins = refl; loading = refl; others = λ u other. refl; held = λ u a other held. held }) stepped
+
+-- one entry behind each node's list
+
+module _ (s : State) (g : Good s) (e : Entry) where
+  pub each_added : (nodes later : List Node) → NodesStand nodes s.nodes s.logs → length later ≡ length nodes → ((n : ℕ) → n < s.nodes → Adds (plains nodes n) e (plains later n))
+      → NodesStand later s.nodes (adding_to_all e s).logs
+  each_added nodes later stand number adds = record {
+    number = number ∙ stand.number;
+    each = λ n less. (adds n less).state ∙ (ap (λ (p : Plain). after p e) (stand.each n less)
+        ∙ (sym (node_added s g n e less) ∙ sym (ap (λ (b : Bool). replay (cond b (s.logs n ++ e ∷ []) (s.logs n))) (lt-ltb n s.nodes less))));
+  }
+
+  pub held_each : (u : TxnId) (a : Addr) → (Takes u a e → ⊥) → HoldsLockAt (adding_to_all e s) u a → HoldsLockAt s u a
+  held_each u a none held =
+      let less : home s a < s.nodes = less_home s g a in
+      ⊎_elim (λ before. before) (λ takes. absurd (none takes)) (held_after u (node_at s (home s a)) e a
+      (subst (λ (p : Plain). HeldBy p u a) (ap (λ (b : Bool). replay (cond b (s.logs (home s a) ++ e ∷ []) (s.logs (home s a)))) (lt-ltb (home s a) s.nodes less) ∙ node_added s g (home s a) e less) held))

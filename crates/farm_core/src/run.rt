@@ -1,0 +1,56 @@
+//! The core: the machine of events, as it runs.
+ghost use Rattle.std.specs.Prelude.{◌≡◌, ◌<◌, ◌≤◌, ℕ, IfOk, OnErr, OnOk, All, length};
+ghost use Rattle.farm_core.specs.Machine.{State, InRange, Runs, fresh};
+ghost use Rattle.farm_core.specs.Cores.{CoreStands, RanFront, node_count, counted_on};
+
+use crate::event::{Answer, Event};
+use crate::farm::Farm;
+use a1_base::Memory;
+use std::alloc::Global;
+
+/// The core of the farm: its nodes, its clock and its transactions, driven by events.
+#[derive(Drop)]
+pub struct Core {
+    farm: Farm,
+    done: u64,
+}
+
+impl Core {
+    /// The core of 1 to 16 nodes, before any event. `Memory` comes for want of memory alone.
+    pub fn new(alloc: Global, nodes: u32) -> Result<Core, Memory>
+        requires some { 0 < nodes }
+        requires few { nodes ≤ 16 }
+        ensures stands { IfOk result (λ core. CoreStands core (fresh nodes)) }
+        ensures done { IfOk result (λ core. core.done ≡ 0) }
+    {
+        let farm = Farm::new(alloc, nodes)?;
+        Ok(Core { farm, done: 0 })
+    }
+
+    /// Answers events, one after another. `Memory` comes for want of memory alone; then `done` says how many of the
+    /// events, from the first, were answered, and nothing more has come to pass.
+    pub fn run(&mut self, alloc: Global, events: &[Event]) -> Result<Vec<Answer>, Memory>
+        requires known { (s : State) × CoreStands self.old s }
+        requires range { All (InRange (node_count self.old)) events.now }
+        ensures ok { (s : State) → CoreStands self.old s → IfOk result (λ answers. (later : State) × Runs s events.now answers.items later × CoreStands self.new later) }
+        ensures done { OnOk result (self.new.done ≡ counted_on self.old.done (length events.now)) }
+        ensures err { (s : State) → CoreStands self.old s → OnErr result (RanFront s events.now self.old self.new) }
+        ensures nodes { node_count self.new ≡ node_count self.old }
+    {
+        let done = self.done;
+        let mut answers = Vec::with_capacity(alloc, events.len())?;
+        let ended = self.farm.run(alloc, events, &mut answers);
+        self.done = done.saturating_add(answers.len() as u64);
+        match ended {
+            Ok(()) => Ok(answers),
+            Err(memory) => Err(memory),
+        }
+    }
+
+    /// How many events it has answered; the count stands still at 2^64 - 1.
+    pub fn done(&self) -> u64
+        ensures { result ≡ self.now.done }
+    {
+        self.done
+    }
+}
