@@ -4,8 +4,7 @@ use Rattle.std.specs.Prelude.{IfOk}
 use Rattle.std.specs.List.{All, AllByRecursion}
 use Rattle.std.proofs.lemmas.List.Elements.{All-from_recursion}
 use Rattle.farm_core.specs.Machine.{State, fresh, InRange, Runs}
-use Rattle.farm_core.specs.Cores.{CoreStands, node_count}
-use Rattle.farm_core.specs.declared.run.Core.{Core}
+use Rattle.farm_core.specs.Cores.{Shown, CoreStands, node_count}
 use Rattle.farm_core.specs.declared.event.Event.{Event}
 use Rattle.farm_core.specs.declared.event.Answer.{Answer}
 use Rattle.steps_text.specs.EventText.{IsEvent, IsTextOf, IsFaultOf}
@@ -21,11 +20,11 @@ each_in_range nodes [] each = tt
 each_in_range nodes (e ∷ es) each = (each.0.0, each_in_range nodes es each.1)
 
 -- a core that stands for the fresh farm takes the events of a farm of as many nodes
-pub takes_events : (core : Core) (nodes : ℕ) (events : List Event) → CoreStands core (fresh nodes) → AllByRecursion (IsEvent nodes) events → All (InRange (node_count core)) events
+pub takes_events : (core : Shown) (nodes : ℕ) (events : List Event) → CoreStands core (fresh nodes) → AllByRecursion (IsEvent nodes) events → All (InRange (node_count core)) events
 takes_events core nodes events stands each = subst (λ n. All (InRange n) events) (sym stands.nodes_stand.number) (All-from_recursion (InRange nodes) events (each_in_range nodes events each))
 
 -- the answers of a run from the fresh farm on
-pub if_answered : {V E : Type 0} (r : Result V E) (items : V → List Answer) (core : Core) (events : List Event)
+pub if_answered : {V E : Type 0} (r : Result V E) (items : V → List Answer) (core : Shown) (events : List Event)
     → IfOk r (λ v. (later : State) × Runs (fresh steps_nodes) events (items v) later × CoreStands core later) → IfOk r (λ v. AreAnswers events (items v))
 if_answered (Ok v) items core events ran = (ran.0, ran.1)
 if_answered (Err e) items core events ran = ran

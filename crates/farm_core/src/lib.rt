@@ -15,3 +15,6 @@ mod run;
 pub use event::{Answer, Event};
 pub use laws::{one_run, reads_whole, serial_order, snapshots_kept};
 pub use run::Core;
+
+#[cfg(test)]
+mod tests;

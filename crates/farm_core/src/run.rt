@@ -7,6 +7,7 @@ use crate::event::{Answer, Event};
 use crate::farm::Farm;
 use a1_base::Memory;
 use std::alloc::Global;
+use std::marker::Model;
 
 /// The core of the farm: its nodes, its clock and its transactions, driven by events.
 #[derive(Drop)]
@@ -15,12 +16,29 @@ pub struct Core {
     done: u64,
 }
 
+impl Model for Core {
+    ghost use Rattle.farm_core.specs.Machine.{State};
+    ghost use Rattle.farm_core.specs.Farms.{Stands};
+    ghost use Rattle.std.specs.Coded.{codes};
+    ghost use Rattle.farm_core.specs.contracts.farm.Farm.{the_row};
+    ghost use Rattle.farm_core.specs.Cores.{Shown};
+
+    ghost Value = { Shown };
+
+    ghost coded = { Prim.hlevel (codes, the_row.coded) };
+
+    ghost view = { λ core. record { farm = core.farm; done = core.done } };
+
+    ghost invariant = { λ core. (s : State) × Stands core.farm s };
+}
+
 impl Core {
     /// The core of 1 to 16 nodes, before any event. `Memory` comes for want of memory alone.
     pub fn new(alloc: Global, nodes: u32) -> Result<Core, Memory>
         requires some { 0 < nodes }
         requires few { nodes ≤ 16 }
         ensures stands { IfOk result (λ core. CoreStands core (fresh nodes)) }
+        ensures nodes { IfOk result (λ core. node_count core ≡ nodes) }
         ensures done { IfOk result (λ core. core.done ≡ 0) }
     {
         let farm = Farm::new(alloc, nodes)?;
@@ -30,8 +48,7 @@ impl Core {
     /// Answers events, one after another. `Memory` comes for want of memory alone; then `done` says how many of the
     /// events, from the first, were answered, and nothing more has come to pass.
     pub fn run(&mut self, alloc: Global, events: &[Event]) -> Result<Vec<Answer>, Memory>
-        requires known { (s : State) × CoreStands self.old s }
-        requires range { All (InRange (node_count self.old)) events.now }
+        requires { All (InRange (node_count self.old)) events.now }
         ensures ok { (s : State) → CoreStands self.old s → IfOk result (λ answers. (later : State) × Runs s events.now answers.items later × CoreStands self.new later) }
         ensures done { OnOk result (self.new.done ≡ counted_on self.old.done (length events.now)) }
         ensures err { (s : State) → CoreStands self.old s → OnErr result (RanFront s events.now self.old self.new) }
@@ -41,10 +58,8 @@ impl Core {
         let mut answers = Vec::with_capacity(alloc, events.len())?;
         let ended = self.farm.run(alloc, events, &mut answers);
         self.done = done.saturating_add(answers.len() as u64);
-        match ended {
-            Ok(()) => Ok(answers),
-            Err(memory) => Err(memory),
-        }
+        ended?;
+        Ok(answers)
     }
 
     /// How many events it has answered; the count stands still at 2^64 - 1.
