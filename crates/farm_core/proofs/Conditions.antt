@@ -20,7 +20,7 @@ use Rattle.farm_core.proofs.Held.{HasPut, holds_held}
 use Rattle.farm_core.proofs.Good.{Good}
 use Rattle.farm_core.proofs.Phases.{open_stage}
 use Rattle.farm_core.proofs.Events.{less_home}
-use Rattle.farm_core.proofs.Holders.{holds_iff, may_iff}
+use Rattle.farm_node.proofs.Holders.{holds_iff, may_iff}
 use Rattle.farm_core.proofs.Changes.{good}
 use Rattle.farm_core.proofs.Sets.{none_left, left_none}
 

@@ -12,7 +12,6 @@ pub mod Serial
 pub mod Answered
 pub mod Decided
 pub mod Sets
-pub mod Holders
 pub mod NodeLists
 pub mod Changes
 pub mod Actives

@@ -19,4 +19,4 @@ pub mod Totals
 pub mod Sweeping
 pub mod Counts
 pub mod Standing
-pub mod Held
+pub mod Holders

@@ -2,7 +2,11 @@
 ghost use Rattle.std.specs.Prelude.{◌≡◌, [], ◌∷◌, IfOk};
 ghost use Rattle.farm_node.specs.Cell.{Bytes};
 
+mod by_chance;
+mod kind;
 mod playing;
+mod random;
+mod replay;
 
 use super::Node;
 use a1_base::{Addr, Bin, Memory, TxnId};

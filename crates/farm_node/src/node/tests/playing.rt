@@ -1,12 +1,12 @@
 //! Events as data, which a node is made to answer. What each call requires is asserted.
-ghost use Rattle.std.specs.Prelude.{◌≡◌, ◌≤◌, ◌<◌, ◌↔◌, None, IfOk, IsTrue};
-ghost use Rattle.farm_node.specs.Plain.{PinnedBy, HeldBy, HasValue, MayLock, MayPut};
+ghost use Rattle.std.specs.Prelude.{◌≡◌, ◌≤◌, ◌<◌, ◌↔◌, None, IsTrue};
+ghost use Rattle.farm_node.specs.Plain.{PinnedBy, HeldBy, MayLock, MayPut};
 ghost use Rattle.farm_node.specs.Node.{plain_of};
 
 use crate::entry::{CheckFault, Collected, Found, Locked, Placed};
 use crate::faults::{LockFault, PlaceFault, ReadFault};
 use crate::node::Node;
-use a1_base::{Addr, Bin, Memory, STAMP_LIMIT, TxnId};
+use a1_base::{Addr, Bin, STAMP_LIMIT, TxnId};
 use std::alloc::{AllocError, Global};
 use std::process::Abort;
 
@@ -44,39 +44,25 @@ fn is_pinned(node: &Node, actor: u32, s: u64) -> bool
     }
 }
 
+#[tactic(auto, using(crate::proofs::Holders::holds_iff))]
 fn holds(node: &Node, t: TxnId, at: Addr) -> bool
     ensures { IsTrue result ↔ HeldBy (plain_of node.now) t at }
 {
-    match node.objects.get(&at) {
-        Some(object) => object.holder() == Some(t),
-        None => false,
-    }
+    node.holds(t, at)
 }
 
-fn has_value(alloc: Global, node: &Node, at: Addr, r: u64) -> Result<bool, Memory>
-    ensures { IfOk result (λ b. IsTrue b → HasValue (plain_of node.now) at r) }
+#[tactic(auto, using(crate::proofs::Holders::may_iff))]
+fn may_lock(node: &Node, t: TxnId, at: Addr, r: u64) -> bool
+    ensures { IsTrue result ↔ MayLock (plain_of node.now) t at r }
 {
-    match node.objects.get(&at) {
-        Some(object) => Ok(object.found(alloc, r)?.value.is_some()),
-        None => Ok(false),
-    }
-}
-
-fn may_lock(alloc: Global, node: &Node, t: TxnId, at: Addr, r: u64) -> Result<bool, Memory>
-    ensures { IfOk result (λ b. IsTrue b → MayLock (plain_of node.now) t at r) }
-{
-    if holds(node, t, at) {
-        Ok(node.is_new(at))
-    } else {
-        has_value(alloc, node, at, r)
-    }
+    node.may_lock(t, at, r)
 }
 
 fn may_put(node: &Node, t: TxnId, at: Addr, w: u64) -> bool
     ensures { IsTrue result → MayPut (plain_of node.now) t at w }
 {
     match node.objects.get(&at) {
-        Some(object) => object.holder() == Some(t) && object.bound() < w,
+        Some(object) => object.is_held_by(t) && object.bound() < w,
         None => false,
     }
 }
@@ -148,8 +134,7 @@ fn lock(
     r: u64,
     text: Option<&str>,
 ) -> Result<String, AllocError> {
-    let may = may_lock(alloc, node, t, at, r);
-    assert!(rt; may == Ok(true));
+    assert!(rt; may_lock(node, t, at, r));
     assert!(rt; is_pinned(node, t.actor, r));
     assert!(rt; r < STAMP_LIMIT);
     let new = match text {
@@ -200,8 +185,8 @@ fn collect(rt: &impl Abort, alloc: Global, node: &mut Node, f: u64) -> Result<St
     format!(in alloc; "floor {floor} versions {versions} objects {objects}")
 }
 
-// What the node answers to an event, as a text.
-fn play(
+/// What the node answers to an event, as a text.
+pub fn play(
     rt: &impl Abort,
     alloc: Global,
     node: &mut Node,

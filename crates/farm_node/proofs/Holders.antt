@@ -9,12 +9,13 @@ use Rattle.farm_node.specs.Plain.{Plain, HeldBy, HeldNew, HasValue, MayLock}
 use Rattle.farm_node.specs.State.{has_lock, holds_there, has_value, is_new, may_lock}
 use Rattle.farm_node.proofs.Sound.{txn_eq, txn_self}
 
+pub has_lock_to : (l : Option Hold) (t : TxnId) → has_lock t l ≡ true → (h : Hold) × (l ≡ Some h) × (h.by ≡ t)
+has_lock_to None t has = absurd (cc)
+has_lock_to (Some h) t has = (h, refl, txn_eq h.by t has)
+
 holds_to : (p : Plain) (t : TxnId) (a : Addr) (c : Option Cell) → p.cells a ≡ c → holds_there t c ≡ true → HeldBy p t a
 holds_to p t a None is held = absurd (cc)
-holds_to p t a (Some c) is held = by c.lock refl held where
-  by : (l : Option Hold) → c.lock ≡ l → has_lock t l ≡ true → HeldBy p t a
-  by None lock has = absurd (cc)
-  by (Some h) lock has = (c, h, is, lock, txn_eq h.by t has)
+holds_to p t a (Some c) is held = let has = has_lock_to c.lock t held in (c, has.0, is, has.1, has.2)
 
 holds_from : (p : Plain) (t : TxnId) (a : Addr) → HeldBy p t a → holds_there t (p.cells a) ≡ true
 holds_from p t a held =
