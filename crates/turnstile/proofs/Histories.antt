@@ -1,0 +1,126 @@
+-- Entries by number, and lists that begin others.
+use Rattle.std.proofs.Common.{◌≡◌, ◌≢◌, ◌⊎◌, ℕ, zero, suc, ◌+◌, ◌<◌, ◌≤◌, Bool, true, false, cond, eqb, List, [], ◌∷◌, ◌++◌, length, sym, refl, ap, ◌∙◌, subst, inl, inr, ⊎_elim, arith, eq-eqb, ne_eqb, append_assoc, append-nil}
+use mathlib.Core.Logic.{dite}
+use native.Mathlib.Decide.{ℕ_discrete}
+use Rattle.turnstile.specs.Entries.{IsAmong, entries_of, Begins, AllOf, without, up_to}
+
+module _ {E : Type 0} (number : E → ℕ) where
+  pub of_append : (k : ℕ) (xs ys : List E) → entries_of number k (xs ++ ys) ≡ entries_of number k xs ++ entries_of number k ys
+  of_append k [] ys = refl
+  of_append k (e ∷ es) ys =
+      let r = of_append k es ys in
+      elim (eqb (number e) k) as (λ b. cond b (e ∷ entries_of number k (es ++ ys)) (entries_of number k (es ++ ys)) ≡ cond b (e ∷ entries_of number k es) (entries_of number k es) ++ entries_of number k ys)
+      [ true ↦ ap (λ (z : List E). e ∷ z) r | false ↦ r ]
+
+  pub of_none : (k : ℕ) (numbers : List ℕ) (es : List E) → AllOf number numbers es → (IsAmong k numbers → ⊥) → entries_of number k es ≡ []
+  of_none k numbers [] all not = refl
+  of_none k numbers (e ∷ es) all not =
+      let r = of_none k numbers es all.1 not in
+      dite (ℕ_discrete (number e) k)
+      (λ (is : number e ≡ k). absurd (not (subst (λ (z : ℕ). IsAmong z numbers) is all.0)))
+      (λ (ne : number e ≢ k). subst (λ (b : Bool). cond b (e ∷ entries_of number k es) (entries_of number k es) ≡ []) (sym (ne_eqb (number e) k ne)) r)
+
+  -- entries of other numbers leave those of k
+  pub of_more : (k : ℕ) (numbers : List ℕ) (xs es : List E) → AllOf number numbers es → (IsAmong k numbers → ⊥) → entries_of number k (xs ++ es) ≡ entries_of number k xs
+  of_more k numbers xs es all not = of_append k xs es ∙ (ap (λ (z : List E). entries_of number k xs ++ z) (of_none k numbers es all not) ∙ append-nil (entries_of number k xs))
+
+module _ {E : Type 0} where
+  pub begins_itself : (log : List E) → Begins log log
+  begins_itself log = ([], sym (append-nil log))
+
+  pub begins_none : (log : List E) → Begins log []
+  begins_none log = (log, refl)
+
+  pub begins_more : (log seen new : List E) → Begins log seen → Begins (log ++ new) seen
+  begins_more log seen new (rest, is) = (rest ++ new, ap (λ (z : List E). z ++ new) is ∙ append_assoc seen rest new)
+
+-- numbers
+pub without_else : (k j : ℕ) (ns : List ℕ) → IsAmong j (without k ns) → IsAmong j ns × (j ≢ k)
+without_else k j [] h = absurd h
+without_else k j (x ∷ xs) h = dite (ℕ_discrete x k)
+    (λ (is : x ≡ k).
+    let r = without_else k j xs (subst (λ (b : Bool). IsAmong j (cond b (without k xs) (x ∷ without k xs))) (eq-eqb x k is) h) in
+    (inr r.0, r.1))
+    (λ (ne : x ≢ k).
+    ⊎_elim
+    (λ (e : x ≡ j). (inl e, λ (z : j ≡ k). ne (e ∙ z)))
+    (λ h'. let r = without_else k j xs h' in (inr r.0, r.1))
+    (subst (λ (b : Bool). IsAmong j (cond b (without k xs) (x ∷ without k xs))) (ne_eqb x k ne) h))
+
+pub without_has : (k j : ℕ) (ns : List ℕ) → IsAmong j ns → j ≢ k → IsAmong j (without k ns)
+without_has k j [] h ne = absurd h
+without_has k j (x ∷ xs) h ne = dite (ℕ_discrete x k)
+    (λ (is : x ≡ k).
+    subst (λ (b : Bool). IsAmong j (cond b (without k xs) (x ∷ without k xs))) (sym (eq-eqb x k is))
+    (⊎_elim (λ (e : x ≡ j). absurd (ne (sym e ∙ is))) (λ h'. without_has k j xs h' ne) h))
+    (λ (not : x ≢ k).
+    subst (λ (b : Bool). IsAmong j (cond b (without k xs) (x ∷ without k xs))) (sym (ne_eqb x k not))
+    (⊎_elim (λ (e : x ≡ j). inl e) (λ h'. inr (without_has k j xs h' ne)) h))
+
+pub without_le : (k : ℕ) (ns : List ℕ) → length (without k ns) ≤ length ns
+without_le k [] = omega arith
+without_le k (x ∷ xs) =
+    let r = without_le k xs in
+    elim (eqb x k) as (λ b. length (cond b (without k xs) (x ∷ without k xs)) ≤ suc (length xs)) [ true ↦ omega arith | false ↦ omega arith ]
+
+pub without_less : (k : ℕ) (ns : List ℕ) → IsAmong k ns → length (without k ns) + 1 ≤ length ns
+without_less k [] h = absurd h
+without_less k (x ∷ xs) h = dite (ℕ_discrete x k)
+    (λ (is : x ≡ k).
+    subst (λ (b : Bool). length (cond b (without k xs) (x ∷ without k xs)) + 1 ≤ suc (length xs)) (sym (eq-eqb x k is))
+    (let r = without_le k xs in omega arith))
+    (λ (not : x ≢ k).
+    subst (λ (b : Bool). length (cond b (without k xs) (x ∷ without k xs)) + 1 ≤ suc (length xs)) (sym (ne_eqb x k not))
+    (⊎_elim (λ (e : x ≡ k). absurd (not e)) (λ h'. let r = without_less k xs h' in omega arith) h))
+
+pub has_some : (k : ℕ) (ns : List ℕ) → IsAmong k ns → 0 < length ns
+has_some k [] h = absurd h
+has_some k (x ∷ xs) h = omega arith
+
+pub has_first : (ns : List ℕ) → 0 < length ns → (k : ℕ) × IsAmong k ns
+has_first [] h = absurd (omega arith)
+has_first (x ∷ xs) h = (x, inl refl)
+
+pub has_either : (k : ℕ) (ns ms : List ℕ) → IsAmong k (ns ++ ms) → IsAmong k ns ⊎ IsAmong k ms
+has_either k [] ms h = inr h
+has_either k (x ∷ xs) ms h = ⊎_elim (λ (e : x ≡ k). inl (inl e)) (λ h'. ⊎_elim (λ p. inl (inr p)) (λ q. inr q) (has_either k xs ms h')) h
+
+pub up_to_has : (k n : ℕ) → IsAmong k (up_to n) → (0 < k) × (k ≤ n)
+up_to_has k zero h = absurd h
+up_to_has k (suc n) h = ⊎_elim (λ (e : suc n ≡ k). ((omega arith), (omega arith))) (λ h'. let r = up_to_has k n h' in (r.0, (let q = r.1 in omega arith))) h
+
+pub up_to_length : (n : ℕ) → length (up_to n) ≡ n
+up_to_length zero = refl
+up_to_length (suc n) = ap suc (up_to_length n)
+
+-- lists of entries that begin one list
+module _ {E : Type 0} where
+  pub no_rest : (xs ys : List E) → xs ++ ys ≡ xs → ys ≡ []
+  no_rest [] ys e = e
+  no_rest (x ∷ xs) ys e = no_rest xs ys (let p : xs ++ ys ≡ xs = cc in p)
+
+  -- of two lists that begin one list, the shorter begins the longer
+  pub between : (log a b : List E) → Begins log a → Begins log b → length a ≤ length b → Begins b a
+  between log [] b p q le = (b, refl)
+  between log (x ∷ a) [] p q le = absurd (omega arith)
+  between log (x ∷ a) (y ∷ b) p q le =
+      let same : x ∷ (a ++ p.0) ≡ y ∷ (b ++ q.0) = sym p.1 ∙ q.1 in
+      let here : x ≡ y = cc in
+      let there : a ++ p.0 ≡ b ++ q.0 = cc in
+      let r = between (a ++ p.0) a b (p.0, refl) (q.0, there) (omega arith) in
+      (r.0, ap (λ (z : List E). y ∷ z) r.1 ∙ ap (λ (z : E). z ∷ (a ++ r.0)) (sym here))
+
+module _ {E : Type 0} (number : E → ℕ) where
+  -- who has seen all entries of a number sees them in each longer list
+  pub of_between : (k : ℕ) (log a b : List E) → Begins log b → Begins b a → entries_of number k log ≡ entries_of number k a → entries_of number k log ≡ entries_of number k b
+  of_between k log a b p q is =
+      let more : List E = q.0 ++ p.0 in
+      let whole : log ≡ a ++ more = p.1 ∙ (ap (λ (z : List E). z ++ p.0) q.1 ∙ append_assoc a q.0 p.0) in
+      let sum : entries_of number k a ++ entries_of number k more ≡ entries_of number k a = sym (of_append number k a more) ∙ (sym (ap (entries_of number k) whole) ∙ is) in
+      let none : entries_of number k more ≡ [] = no_rest (entries_of number k a) (entries_of number k more) sum in
+      let split : entries_of number k q.0 ++ entries_of number k p.0 ≡ [] = sym (of_append number k q.0 p.0) ∙ none in
+      let last : entries_of number k p.0 ≡ [] = nothing (entries_of number k q.0) (entries_of number k p.0) split in
+      ap (entries_of number k) p.1 ∙ (of_append number k b p.0 ∙ (ap (λ (z : List E). entries_of number k b ++ z) last ∙ append-nil (entries_of number k b))) where
+        nothing : (xs ys : List E) → xs ++ ys ≡ [] → ys ≡ []
+        nothing [] ys e = e
+        nothing (x ∷ xs) ys e = cc

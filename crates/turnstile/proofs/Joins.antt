@@ -1,0 +1,164 @@
+-- Joining two seats keeps the rule.
+use Rattle.std.proofs.Common.{◌≡◌, ◌≢◌, ◌⊎◌, ℕ, ◌+◌, ◌<◌, ◌≤◌, Bool, true, false, cond, nat_lt, List, length, set, sym, refl, ap, ◌∙◌, subst, inl, inr, ⊎_elim, arith, length-append, lt-ltb, le-ltb}
+use mathlib.Core.Option.{some}
+use native.Mathlib.Decide.{dec_lt}
+use lib.ListN.{get_elem?}
+use Rattle.std.specs.Prelude.{Option}
+use Rattle.atomic_table.specs.Table.{State, Joins}
+use Rattle.atomic_table.proofs.Lists.{at_set, set_else}
+use Rattle.turnstile.specs.declared.view.View.{View}
+use Rattle.turnstile.specs.declared.view.Stage.TheVariants.{Idle, Inside}
+use Rattle.turnstile.specs.Turns.{tickets, total, joined, spent, Fits, Apart, Kept}
+use Rattle.turnstile.specs.Entries.{IsAmong, Begins, entries_of, longer, shorter}
+use Rattle.turnstile.proofs.Lists.{total_set, each_set, apart_set, apart_flip, somebody_set, set_swap}
+use Rattle.turnstile.proofs.Histories.{begins_none, has_either, between, of_between, begins_itself}
+use Rattle.turnstile.proofs.Draws.{not_inside}
+
+module _ {E : Type 0} where
+  joined_heard : (log a b : List E) → Begins log a → Begins log b → Begins (longer a b) (shorter a b)
+  joined_heard log a b p q = by_test (dec_lt (length a) (length b)) where
+    by_test : Dec (length a < length b) → Begins (longer a b) (shorter a b)
+    by_test (yes lt) = subst (λ (t : Bool). Begins (cond t b a) (cond t a b)) (sym (lt-ltb (length a) (length b) lt)) (between log a b p q (omega arith))
+    by_test (no ge) = let le : length b ≤ length a = omega arith in
+        subst (λ (t : Bool). Begins (cond t b a) (cond t a b)) (sym (le-ltb (length a) (length b) le)) (between log b a q p le)
+
+  joined_own : (number : E → ℕ) (log : List E) (v w : View E) → Begins log v.seen → Begins log w.seen
+      → ((k : ℕ) → IsAmong k v.numbers → entries_of number k log ≡ entries_of number k v.seen) → ((k : ℕ) → IsAmong k w.numbers → entries_of number k log ≡ entries_of number k w.seen)
+      → (k : ℕ) → IsAmong k (joined v w).heard_numbers → entries_of number k (joined v w).seen ≡ entries_of number k (joined v w).heard
+  joined_own number log v w p q own own' k = by_test (dec_lt (length v.seen) (length w.seen)) where
+    by_test : Dec (length v.seen < length w.seen) → IsAmong k (joined v w).heard_numbers → entries_of number k (joined v w).seen ≡ entries_of number k (joined v w).heard
+    by_test (yes lt) = subst (λ (t : Bool). IsAmong k (cond t v.numbers w.numbers) → entries_of number k (cond t w.seen v.seen) ≡ entries_of number k (cond t v.seen w.seen)) (sym (lt-ltb (length v.seen) (length w.seen) lt))
+        (λ h. sym (of_between number k log v.seen w.seen q (between log v.seen w.seen p q (omega arith)) (own k h)) ∙ own k h)
+    by_test (no ge) = let le : length w.seen ≤ length v.seen = omega arith in
+        subst (λ (t : Bool). IsAmong k (cond t v.numbers w.numbers) → entries_of number k (cond t w.seen v.seen) ≡ entries_of number k (cond t v.seen w.seen)) (sym (le-ltb (length v.seen) (length w.seen) le))
+        (λ h. sym (of_between number k log w.seen v.seen p (between log w.seen v.seen q p le) (own' k h)) ∙ own' k h)
+
+  -- of two seats that become one, each knows its own entries
+  pub joined_both : (number : E → ℕ) (v w : View E) → ((k : ℕ) → IsAmong k (joined v w).heard_numbers → entries_of number k (joined v w).seen ≡ entries_of number k (joined v w).heard)
+      → ((k : ℕ) → IsAmong k v.numbers → entries_of number k (joined v w).seen ≡ entries_of number k v.seen) × ((k : ℕ) → IsAmong k w.numbers → entries_of number k (joined v w).seen ≡ entries_of number k w.seen)
+  joined_both number v w = by_test (nat_lt (length v.seen) (length w.seen)) where
+    by_test : (t : Bool) → ((k : ℕ) → IsAmong k (cond t v.numbers w.numbers) → entries_of number k (cond t w.seen v.seen) ≡ entries_of number k (cond t v.seen w.seen))
+        → ((k : ℕ) → IsAmong k v.numbers → entries_of number k (cond t w.seen v.seen) ≡ entries_of number k v.seen) × ((k : ℕ) → IsAmong k w.numbers → entries_of number k (cond t w.seen v.seen) ≡ entries_of number k w.seen)
+    by_test true h = (h, λ k p. refl)
+    by_test false h = (λ k p. refl, h)
+
+  -- two lists, of which one begins the other, begin the longer
+  pub longer_both : (a b : List E) → Begins (longer a b) (shorter a b) → Begins (longer a b) a × Begins (longer a b) b
+  longer_both a b h = by_test (nat_lt (length a) (length b)) h where
+    by_test : (t : Bool) → Begins (cond t b a) (cond t a b) → Begins (cond t b a) a × Begins (cond t b a) b
+    by_test true h = (h, begins_itself b)
+    by_test false h = (begins_itself a, h)
+
+  pub by_length : (a b : List E) → ((longer a b ≡ b) × (length a ≤ length b)) ⊎ ((longer a b ≡ a) × (length b ≤ length a))
+  by_length a b = by_test (dec_lt (length a) (length b)) where
+    by_test : Dec (length a < length b) → ((longer a b ≡ b) × (length a ≤ length b)) ⊎ ((longer a b ≡ a) × (length b ≤ length a))
+    by_test (yes lt) = inl (ap (λ (t : Bool). cond t b a) (lt-ltb (length a) (length b) lt), omega arith)
+    by_test (no ge) = let le : length b ≤ length a = omega arith in inr (ap (λ (t : Bool). cond t b a) (le-ltb (length a) (length b) le), le)
+
+  pub longer_begins : (log a b : List E) → Begins log a → Begins log b → Begins log (longer a b)
+  longer_begins log a b p q = ⊎_elim (λ t. subst (Begins log) (sym t.0) q) (λ t. subst (Begins log) (sym t.0) p) (by_length a b)
+
+  pub longer_begun : (log a b : List E) → Begins log a → Begins log b → Begins (longer a b) a × Begins (longer a b) b
+  longer_begun log a b p q = ⊎_elim
+      (λ t. (subst (λ (z : List E). Begins z a) (sym t.0) (between log a b p q t.1), subst (λ (z : List E). Begins z b) (sym t.0) (begins_itself b)))
+      (λ t. (subst (λ (z : List E). Begins z a) (sym t.0) (begins_itself a), subst (λ (z : List E). Begins z b) (sym t.0) (between log b a q p t.1)))
+      (by_length a b)
+
+module _ {T E : Type 0} (stands : T → List E → Type 0) (number : E → ℕ) (passes : ℕ) (start : E) where
+  abbrev K : State (Option T) (View E) → Type 0
+  K = Kept stands number passes start
+
+  abbrev State' : Type 0
+  State' = State (Option T) (View E)
+
+  apart_spent : (u : View E) → Apart spent u
+  apart_spent u = record { numbers = λ x p q. absurd p; tickets = λ m p q. absurd p }
+
+  joins_swapped : (id other : ℕ) (v w : View E) (s : State') (k : K s) → v.stage ≡ Idle → w.stage ≡ Idle → other ≢ id
+      → get_elem? s.views id ≡ some v → get_elem? s.views other ≡ some w
+      → K record { words = s.words; homes = s.homes; views = set (set s.views other spent) id (joined v w) }
+  joins_swapped id other v w s k idle idle' ne at at' =
+      let both : View E = joined v w in
+      let f : View E → ℕ = λ z. tickets z.stage in
+      let g : View E → ℕ = λ z. length z.numbers in
+      let less : List (View E) = set s.views other spent in
+      let at1 : get_elem? less id ≡ some v = set_else s.views other id spent (λ (z : id ≡ other). ne (sym z)) ∙ at in
+      let sum : total f less + f w ≡ total f s.views + f spent = total_set f s.views other w spent at' in
+      let sum' : total g less + g w ≡ total g s.views + g spent = total_set g s.views other w spent at' in
+      let all : total f (set less id both) + f v ≡ total f less + f both = total_set f less id v both at1 in
+      let all' : total g (set less id both) + g v ≡ total g less + g both = total_set g less id v both at1 in
+      let wide : g both ≡ g v + g w = length-append v.numbers w.numbers in
+      let none : f v ≡ 0 = ap tickets idle in
+      let none' : f w ≡ 0 = ap tickets idle' in
+      let a = k.fits id v at in
+      let b = k.fits other w at' in
+      let out = k.out in
+      let begun = longer_begun k.log v.seen w.seen a.seen b.seen in
+      let begins = longer_begins k.log v.seen w.seen a.seen b.seen in
+      let P : View E → Type 0 = λ z. (m : ℕ) → z.stage ≡ Inside m → ⊥ in
+      record {
+        log = k.log;
+        drawn = k.drawn;
+        served = k.served;
+        words = k.words;
+        out = omega arith;
+        few = k.few;
+        held = let h = k.held in omega arith;
+        begins = k.begins;
+        zeros = k.zeros;
+        no_more = k.no_more;
+        fits = each_set (Fits number passes k.log k.drawn k.served) less id both
+            (λ j u ne e. each_set (Fits number passes k.log k.drawn k.served) s.views other spent (λ j u ne e. k.fits j u e)
+            record {
+              seen = (k.log, refl);
+              heard = begins_none _;
+              heard_own = λ x h. absurd h;
+              own = λ x h. absurd h;
+              range = λ x h. absurd h;
+              ticket = λ m t. absurd t;
+              inside = λ m e. cc;
+            } j u e)
+            record {
+              seen = begins;
+              heard = joined_heard k.log v.seen w.seen a.seen b.seen;
+              heard_own = joined_own number k.log v w a.seen b.seen a.own b.own;
+              own = λ x h. ⊎_elim
+                  (λ p. of_between number x k.log v.seen (longer v.seen w.seen) begins begun.0 (a.own x p))
+                  (λ p. of_between number x k.log w.seen (longer v.seen w.seen) begins begun.1 (b.own x p))
+                  (has_either x v.numbers w.numbers h);
+              range = λ x h. ⊎_elim (λ p. a.range x p) (λ p. b.range x p) (has_either x v.numbers w.numbers h);
+              ticket = λ m t. absurd t;
+              inside = λ m e. cc;
+            };
+        apart = apart_set less id both
+            (apart_set s.views other spent k.apart (λ j u ne e. apart_spent u))
+            (λ j u ne' e. ⊎_elim
+            (λ t. subst (λ (z : View E). Apart both z) t.1 (apart_flip spent both (apart_spent both)))
+            (λ t.
+            let p = k.apart id j v u (λ (z : id ≡ j). ne' (sym z)) at t.1 in
+            let q = k.apart other j w u (λ (z : other ≡ j). t.0 (sym z)) at' t.1 in
+            record {
+              numbers = λ x h r. ⊎_elim (λ y. p.numbers x y r) (λ y. q.numbers x y r) (has_either x v.numbers w.numbers h);
+              tickets = λ m h r. absurd h;
+            })
+            (at_set s.views other j spent u e));
+        slot = ⊎_elim
+            (λ t. inl (
+              t.0,
+              t.1,
+              t.2,
+              λ i u m e is.
+                  each_set P less id both
+                  (λ j u ne e. each_set P s.views other spent (λ j u ne e m is. t.3 j u m e is) (λ m is. cc) j u e)
+                  (λ m is. cc) i u e m is,
+            ))
+            (λ t. inr (t.0, somebody_set less id v both at1 (not_inside v idle) (somebody_set s.views other w spent at' (not_inside w idle') t.1)))
+            k.slot;
+      }
+
+  pub joins : (id other : ℕ) (v w : View E) → v.stage ≡ Idle → w.stage ≡ Idle → Joins K id v other w (joined v w) spent
+  joins id other v w idle idle' s k at ne at' =
+      let there : get_elem? s.views other ≡ some w = sym (set_else s.views id other (joined v w) ne) ∙ at' in
+      subst (λ (z : List (View E)). K record { words = s.words; homes = s.homes; views = z })
+      (set_swap s.views other id spent (joined v w) ne)
+      (joins_swapped id other v w s k idle idle' ne at there)

@@ -1,0 +1,12 @@
+pub mod Histories
+pub mod Lists
+pub mod Starts
+pub mod Draws
+pub mod Looks
+pub mod Counts
+pub mod Hands
+pub mod Serves
+pub mod Splits
+pub mod Joins
+pub mod Learns
+pub mod Closes

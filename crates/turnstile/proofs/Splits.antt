@@ -1,0 +1,94 @@
+-- Splitting a seat keeps the rule.
+use Rattle.std.proofs.Common.{◌≡◌, ℕ, ◌+◌, List, [], ◌∷◌, ◌++◌, length, set, sym, ap, subst, inl, inr, ⊎_elim, arith}
+use Rattle.std.specs.Prelude.{Option}
+use Rattle.atomic_table.specs.Table.{State, Splits}
+use Rattle.atomic_table.proofs.Lists.{at_set}
+use Rattle.turnstile.specs.declared.view.View.{View}
+use Rattle.turnstile.specs.declared.view.Stage.TheVariants.{Idle, Inside}
+use Rattle.turnstile.specs.Turns.{tickets, total, first_half, second_half, Fits, Apart, Kept}
+use Rattle.turnstile.specs.Entries.{IsAmong}
+use Rattle.turnstile.proofs.Lists.{total_set, total_snoc, each_set, each_end, apart_set, apart_end, somebody_set, at_longer}
+use Rattle.turnstile.proofs.Histories.{begins_none, without_else, without_less}
+use Rattle.turnstile.proofs.Draws.{not_inside}
+
+module _ {T E : Type 0} (stands : T → List E → Type 0) (number : E → ℕ) (passes : ℕ) (start : E) where
+  abbrev K : State (Option T) (View E) → Type 0
+  K = Kept stands number passes start
+
+  pub splits : (id n : ℕ) (v : View E) → v.stage ≡ Idle → IsAmong n v.numbers → Splits K id v (first_half n v) (second_half n v)
+  splits id n v idle has s k at =
+      let left : View E = first_half n v in
+      let right : View E = second_half n v in
+      let f : View E → ℕ = λ z. tickets z.stage in
+      let g : View E → ℕ = λ z. length z.numbers in
+      let views : List (View E) = set s.views id left in
+      let sum : total f views + f v ≡ total f s.views + f left = total_set f s.views id v left at in
+      let sum' : total g views + g v ≡ total g s.views + g left = total_set g s.views id v left at in
+      let end : total f (views ++ right ∷ []) ≡ total f views + f right = total_snoc f views right in
+      let end' : total g (views ++ right ∷ []) ≡ total g views + g right = total_snoc g views right in
+      let none : f v ≡ 0 = ap tickets idle in
+      let less = without_less n v.numbers has in
+      let mine = k.fits id v at in
+      let out = k.out in
+      let mine_of : (j : ℕ) → IsAmong j (n ∷ []) → IsAmong j v.numbers = λ j h. ⊎_elim (λ (e : n ≡ j). subst (λ (z : ℕ). IsAmong z v.numbers) e has) (λ x. absurd x) h in
+      record {
+        log = k.log;
+        drawn = k.drawn;
+        served = k.served;
+        words = k.words;
+        out = omega arith;
+        few = k.few;
+        held = let h = k.held in omega arith;
+        begins = k.begins;
+        zeros = k.zeros;
+        no_more = k.no_more;
+        fits = each_end (Fits number passes k.log k.drawn k.served) views right
+            (each_set (Fits number passes k.log k.drawn k.served) s.views id left (λ j u ne e. k.fits j u e)
+            record {
+              seen = mine.seen;
+              heard = begins_none _;
+              heard_own = λ x h. absurd h;
+              own = λ j h. mine.own j (mine_of j h);
+              range = λ j h. mine.range j (mine_of j h);
+              ticket = λ m t. absurd t;
+              inside = λ m e. cc;
+            })
+            record {
+              seen = mine.seen;
+              heard = begins_none _;
+              heard_own = λ x h. absurd h;
+              own = λ j h. mine.own j (without_else n j v.numbers h).0;
+              range = λ j h. mine.range j (without_else n j v.numbers h).0;
+              ticket = λ m t. absurd t;
+              inside = λ m e. cc;
+            };
+        apart = apart_end views right
+            (apart_set s.views id left k.apart
+            (λ j u ne e. let a = k.apart id j v u (λ (z : id ≡ j). ne (sym z)) at e in record {
+              numbers = λ x p q. a.numbers x (mine_of x p) q;
+              tickets = λ m p q. absurd p;
+            }))
+            (λ j u e. ⊎_elim
+            (λ t. subst (λ (z : View E). Apart right z) t.1 record {
+              numbers = λ x p q. ⊎_elim (λ (z : n ≡ x). (without_else n x v.numbers p).1 (sym z)) (λ z. absurd z) q;
+              tickets = λ m p q. absurd p;
+            })
+            (λ t. let a = k.apart id j v u (λ (z : id ≡ j). t.0 (sym z)) at t.1 in record {
+              numbers = λ x p q. a.numbers x (without_else n x v.numbers p).0 q;
+              tickets = λ m p q. absurd p;
+            })
+            (at_set s.views id j left u e));
+        slot = ⊎_elim
+            (λ t. inl (
+              t.0,
+              t.1,
+              t.2,
+              λ i u m e is.
+                  each_end (λ (z : View E). (m : ℕ) → z.stage ≡ Inside m → ⊥) views right
+                  (each_set (λ (z : View E). (m : ℕ) → z.stage ≡ Inside m → ⊥) s.views id left (λ j u ne e m is. t.3 j u m e is) (λ m is. cc))
+                  (λ m is. cc) i u e m is,
+            ))
+            (λ t. let b = somebody_set s.views id v left at (not_inside v idle) t.1 in
+            inr (t.0, (b.0, b.1, b.2, at_longer views (right ∷ []) b.0 b.1 b.3, b.4)))
+            k.slot;
+      }
