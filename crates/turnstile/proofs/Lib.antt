@@ -10,3 +10,4 @@ pub mod Splits
 pub mod Joins
 pub mod Learns
 pub mod Closes
+pub mod Books

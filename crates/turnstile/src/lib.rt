@@ -11,6 +11,8 @@ mod lends;
 mod lock;
 mod numbers;
 mod rule;
+#[cfg(test)]
+mod tests;
 mod turns;
 mod view;
 
