@@ -16,6 +16,7 @@ pub(crate) const SERVING: usize = 1;
 
 pub(crate) const COUNT: usize = 2;
 
+#[derive(Drop)]
 /// A first-come lock round a value, which stands for a list of entries.
 pub struct Turnstile<T: Keeps> {
     pub(crate) table: Table<Option<T>, View<T::Entry>, Key<T>, Turns<T>, Global>,

@@ -1,7 +1,7 @@
 //! Threads that add to one value, turn by turn.
 mod book;
 
-use book::written_by;
+use book::{written_by, written_in_one_thread};
 use std::process::Abort;
 use std::test::Fail;
 
@@ -15,6 +15,13 @@ fn assert_each_is_whole(rt: &impl Abort, marks: &[(u32, u64)], writers: u32, tim
             .map(|mark| mark.1);
         assert!(rt; own.eq(0..times));
     }
+}
+
+#[test]
+fn one_thread_takes_turns(rt: HostRuntime) -> Result<(), Fail> {
+    let marks = written_in_one_thread(&rt, rt.alloc())?;
+    assert_eq!(rt; marks.as_slice(), [(2, 0), (1, 0), (2, 1)].as_slice());
+    Ok(())
 }
 
 #[test]

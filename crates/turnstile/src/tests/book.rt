@@ -169,3 +169,21 @@ pub fn written_by<R: Threads + Wait + Sync>(
     let Book { marks } = lock.close(pass);
     Ok(if all_wrote { Some(marks) } else { None })
 }
+
+/// The marks of two passes that take turns in one thread.
+pub fn written_in_one_thread<R: Wait>(rt: &R, alloc: Global) -> Result<Vec<(u32, u64)>, Memory> {
+    let book = Book {
+        marks: Vec::new(alloc),
+    };
+    let (lock, pass) = match Turnstile::new(alloc, book, 2) {
+        Ok(made) => made,
+        Err((_, memory)) => return Err(memory),
+    };
+    let (second, first) = lock.split(pass, 2);
+    let (second, _) = write(rt, &lock, second, 2, 0);
+    let (first, _) = write(rt, &lock, first, 1, 0);
+    let (second, _) = write(rt, &lock, second, 2, 1);
+    let pass = lock.join(first, second);
+    let Book { marks } = lock.close(pass);
+    Ok(marks)
+}
