@@ -1,15 +1,16 @@
 -- The step that adds the entries of a turn to the log keeps the rule.
-use Rattle.std.proofs.Common.{◌≡◌, ◌≢◌, ℕ, ◌+◌, ◌%◌, ◌^◌, List, [], ◌∷◌, ◌++◌, length, get_or, set, sym, refl, ap, ◌∙◌, subst, inr, ⊎_elim, arith, length-append}
+use Rattle.std.proofs.Common.{sum_by, ◌≡◌, ◌≢◌, ℕ, ◌+◌, ◌%◌, ◌^◌, List, [], ◌∷◌, ◌++◌, length, get_or, set, sym, refl, ap, ◌∙◌, subst, inr, ⊎_elim, arith, length-append}
 use mathlib.Core.Option.{some}
 use lib.ListN.{get_elem?}
+use Rattle.a1_base.proofs.Sums.{sum_set}
 use Rattle.std.specs.Prelude.{Option}
 use Rattle.atomic_table.specs.Table.{State, Me, keeps, Allows}
 use Rattle.turnstile.specs.declared.view.View.{View}
 use Rattle.turnstile.specs.declared.view.Stage.{Stage}
 use Rattle.turnstile.specs.declared.view.Stage.TheVariants.{Inside}
-use Rattle.turnstile.specs.Turns.{word_of, HasTicket, tickets, total, Fits, Kept, having_added}
+use Rattle.turnstile.specs.Turns.{word_of, HasTicket, tickets, Fits, Kept, having_added}
 use Rattle.turnstile.specs.Entries.{IsAmong, AllOf, Begins, entries_of}
-use Rattle.turnstile.proofs.Lists.{total_set, each_set, apart_set, here_set}
+use Rattle.turnstile.proofs.Lists.{each_set, apart_set, here_set}
 use Rattle.turnstile.proofs.Histories.{begins_none, of_more, begins_itself, begins_more}
 
 module _ {T E : Type 0} (stands : T → List E → Type 0) (number : E → ℕ) (passes : ℕ) (start : E) where
@@ -34,8 +35,8 @@ module _ {T E : Type 0} (stands : T → List E → Type 0) (number : E → ℕ) 
       let w : View E = having_added new v in
       let f : View E → ℕ = λ z. tickets z.stage in
       let g : View E → ℕ = λ z. length z.numbers in
-      let sum : total f (set s.views id w) + f v ≡ total f s.views + f w = total_set f s.views id v w at in
-      let sum' : total g (set s.views id w) + g v ≡ total g s.views + g w = total_set g s.views id v w at in
+      let sum : sum_by f (set s.views id w) + f v ≡ sum_by f s.views + f w = sum_set f s.views id v w at in
+      let sum' : sum_by g (set s.views id w) + g v ≡ sum_by g s.views + g w = sum_set g s.views id v w at in
       let mine = k.fits id v at in
       let now : n ≡ k.served = (mine.inside n inside).0 in
       let whole : k.log ≡ v.seen = (mine.inside n inside).1 in

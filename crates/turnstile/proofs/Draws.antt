@@ -1,12 +1,13 @@
 -- Drawing a ticket keeps the rule.
-use Rattle.std.proofs.Common.{◌≡◌, ℕ, ◌+◌, ◌%◌, ◌^◌, ◌<◌, ◌≤◌, List, [], ◌∷◌, length, get_or, set, sym, refl, ap, ◌∙◌, subst, inl, inr, ⊎_elim, arith}
+use Rattle.std.proofs.Common.{sum_by, ◌≡◌, ℕ, ◌+◌, ◌%◌, ◌^◌, ◌<◌, ◌≤◌, List, [], ◌∷◌, length, get_or, set, sym, refl, ap, ◌∙◌, subst, inl, inr, ⊎_elim, arith}
 use Rattle.std.specs.Prelude.{Option}
 use Rattle.atomic_table.specs.Table.{State, Me, keeps, Allows}
+use Rattle.a1_base.proofs.Sums.{sum_set}
 use Rattle.turnstile.specs.declared.view.View.{View}
 use Rattle.turnstile.specs.declared.view.Stage.TheVariants.{Idle, Waits, Inside}
-use Rattle.turnstile.specs.Turns.{word_of, tickets, total, view, Fits, Kept, Drawn}
+use Rattle.turnstile.specs.Turns.{word_of, tickets, view, Fits, Kept, Drawn}
 use Rattle.turnstile.proofs.Histories.{begins_none}
-use Rattle.turnstile.proofs.Lists.{total_set, each_set, apart_set, nobody_set, somebody_set}
+use Rattle.turnstile.proofs.Lists.{each_set, apart_set, nobody_set, somebody_set}
 
 pub next_word : (d : ℕ) → (word_of d + 1) % 2 ^ 64 ≡ word_of (d + 1)
 next_word d = omega arith
@@ -25,8 +26,8 @@ module _ {T E : Type 0} (stands : T → List E → Type 0) (number : E → ℕ) 
       let w : View E = view (Waits k.drawn) v.numbers v.seen in
       let f : View E → ℕ = λ z. tickets z.stage in
       let g : View E → ℕ = λ z. length z.numbers in
-      let sum : total f (set s.views id w) + f v ≡ total f s.views + f w = total_set f s.views id v w at in
-      let sum' : total g (set s.views id w) + g v ≡ total g s.views + g w = total_set g s.views id v w at in
+      let sum : sum_by f (set s.views id w) + f v ≡ sum_by f s.views + f w = sum_set f s.views id v w at in
+      let sum' : sum_by g (set s.views id w) + g v ≡ sum_by g s.views + g w = sum_set g s.views id v w at in
       let none : f v ≡ 0 = ap tickets idle in
       let mine = k.fits id v at in
       let out = k.out in

@@ -1,16 +1,13 @@
 -- Entries by number, and lists that begin others.
-use Rattle.std.proofs.Common.{◌≡◌, ◌≢◌, ◌⊎◌, ℕ, zero, suc, ◌+◌, ◌<◌, ◌≤◌, Bool, true, false, cond, eqb, List, [], ◌∷◌, ◌++◌, length, sym, refl, ap, ◌∙◌, subst, inl, inr, ⊎_elim, arith, eq-eqb, ne_eqb, append_assoc, append-nil}
+use Rattle.std.proofs.Common.{◌≡◌, ◌≢◌, ◌⊎◌, ℕ, zero, suc, ◌+◌, ◌<◌, ◌≤◌, ◌==◌, Bool, true, false, cond, eqb, List, [], ◌∷◌, ◌++◌, length, sym, refl, ap, ◌∙◌, subst, inl, inr, ⊎_elim, arith, eq-eqb, ne_eqb, append_assoc, append-nil}
+use Rattle.std.proofs.lemmas.List.Elements.{filter-append}
 use mathlib.Core.Logic.{dite}
 use native.Mathlib.Decide.{ℕ_discrete}
 use Rattle.turnstile.specs.Entries.{IsAmong, entries_of, Begins, AllOf, without, up_to}
 
 module _ {E : Type 0} (number : E → ℕ) where
   pub of_append : (k : ℕ) (xs ys : List E) → entries_of number k (xs ++ ys) ≡ entries_of number k xs ++ entries_of number k ys
-  of_append k [] ys = refl
-  of_append k (e ∷ es) ys =
-      let r = of_append k es ys in
-      elim (eqb (number e) k) as (λ b. cond b (e ∷ entries_of number k (es ++ ys)) (entries_of number k (es ++ ys)) ≡ cond b (e ∷ entries_of number k es) (entries_of number k es) ++ entries_of number k ys)
-      [ true ↦ ap (λ (z : List E). e ∷ z) r | false ↦ r ]
+  of_append k = filter-append (λ e. number e == k)
 
   pub of_none : (k : ℕ) (numbers : List ℕ) (es : List E) → AllOf number numbers es → (IsAmong k numbers → ⊥) → entries_of number k es ≡ []
   of_none k numbers [] all not = refl

@@ -1,16 +1,17 @@
 -- Joining two seats keeps the rule.
-use Rattle.std.proofs.Common.{◌≡◌, ◌≢◌, ◌⊎◌, ℕ, ◌+◌, ◌<◌, ◌≤◌, Bool, true, false, cond, nat_lt, List, length, set, sym, refl, ap, ◌∙◌, subst, inl, inr, ⊎_elim, arith, length-append, lt-ltb, le-ltb}
+use Rattle.std.proofs.Common.{sum_by, ◌≡◌, ◌≢◌, ◌⊎◌, ℕ, ◌+◌, ◌<◌, ◌≤◌, Bool, true, false, cond, nat_lt, List, length, set, sym, refl, ap, ◌∙◌, subst, inl, inr, ⊎_elim, arith, length-append, lt-ltb, le-ltb}
 use mathlib.Core.Option.{some}
 use native.Mathlib.Decide.{dec_lt}
 use lib.ListN.{get_elem?}
+use Rattle.a1_base.proofs.Sums.{sum_set}
 use Rattle.std.specs.Prelude.{Option}
 use Rattle.atomic_table.specs.Table.{State, Joins}
 use Rattle.atomic_table.proofs.Lists.{at_set, set_else}
 use Rattle.turnstile.specs.declared.view.View.{View}
 use Rattle.turnstile.specs.declared.view.Stage.TheVariants.{Idle, Inside}
-use Rattle.turnstile.specs.Turns.{tickets, total, joined, spent, Fits, Apart, Kept}
+use Rattle.turnstile.specs.Turns.{tickets, joined, spent, Fits, Apart, Kept}
 use Rattle.turnstile.specs.Entries.{IsAmong, Begins, entries_of, longer, shorter}
-use Rattle.turnstile.proofs.Lists.{total_set, each_set, apart_set, apart_flip, somebody_set, set_swap}
+use Rattle.turnstile.proofs.Lists.{each_set, apart_set, apart_flip, somebody_set, set_swap}
 use Rattle.turnstile.proofs.Histories.{begins_none, has_either, between, of_between, begins_itself}
 use Rattle.turnstile.proofs.Draws.{not_inside}
 
@@ -83,10 +84,10 @@ module _ {T E : Type 0} (stands : T → List E → Type 0) (number : E → ℕ) 
       let g : View E → ℕ = λ z. length z.numbers in
       let less : List (View E) = set s.views other spent in
       let at1 : get_elem? less id ≡ some v = set_else s.views other id spent (λ (z : id ≡ other). ne (sym z)) ∙ at in
-      let sum : total f less + f w ≡ total f s.views + f spent = total_set f s.views other w spent at' in
-      let sum' : total g less + g w ≡ total g s.views + g spent = total_set g s.views other w spent at' in
-      let all : total f (set less id both) + f v ≡ total f less + f both = total_set f less id v both at1 in
-      let all' : total g (set less id both) + g v ≡ total g less + g both = total_set g less id v both at1 in
+      let sum : sum_by f less + f w ≡ sum_by f s.views + f spent = sum_set f s.views other w spent at' in
+      let sum' : sum_by g less + g w ≡ sum_by g s.views + g spent = sum_set g s.views other w spent at' in
+      let all : sum_by f (set less id both) + f v ≡ sum_by f less + f both = sum_set f less id v both at1 in
+      let all' : sum_by g (set less id both) + g v ≡ sum_by g less + g both = sum_set g less id v both at1 in
       let wide : g both ≡ g v + g w = length-append v.numbers w.numbers in
       let none : f v ≡ 0 = ap tickets idle in
       let none' : f w ≡ 0 = ap tickets idle' in

@@ -1,12 +1,13 @@
 -- A load by which a seat learns that what it has seen begins with what it heard.
-use Rattle.std.proofs.Common.{◌≡◌, ℕ, ◌+◌, List, length, set, sym, refl, ◌∙◌, inl, inr, ⊎_elim, arith}
+use Rattle.std.proofs.Common.{sum_by, ◌≡◌, ℕ, ◌+◌, List, length, set, sym, refl, ◌∙◌, inl, inr, ⊎_elim, arith}
 use Rattle.std.specs.Prelude.{Option}
 use Rattle.atomic_table.specs.Table.{State, Me, keeps, Allows}
+use Rattle.a1_base.proofs.Sums.{sum_set}
 use Rattle.turnstile.specs.declared.view.View.{View}
 use Rattle.turnstile.specs.declared.view.Stage.TheVariants.{Idle}
-use Rattle.turnstile.specs.Turns.{tickets, total, view, Fits, Kept, Learned}
+use Rattle.turnstile.specs.Turns.{tickets, view, Fits, Kept, Learned}
 use Rattle.turnstile.proofs.Histories.{begins_none}
-use Rattle.turnstile.proofs.Lists.{total_set, each_set, apart_set, nobody_set, somebody_set}
+use Rattle.turnstile.proofs.Lists.{each_set, apart_set, nobody_set, somebody_set}
 use Rattle.turnstile.proofs.Looks.{same_words}
 use Rattle.turnstile.proofs.Draws.{not_inside}
 
@@ -21,8 +22,8 @@ module _ {T E : Type 0} (stands : T → List E → Type 0) (number : E → ℕ) 
       let w : View E = view v.stage v.numbers v.seen in
       let f : View E → ℕ = λ z. tickets z.stage in
       let g : View E → ℕ = λ z. length z.numbers in
-      let sum : total f (set s.views id w) + f v ≡ total f s.views + f w = total_set f s.views id v w at in
-      let sum' : total g (set s.views id w) + g v ≡ total g s.views + g w = total_set g s.views id v w at in
+      let sum : sum_by f (set s.views id w) + f v ≡ sum_by f s.views + f w = sum_set f s.views id v w at in
+      let sum' : sum_by g (set s.views id w) + g v ≡ sum_by g s.views + g w = sum_set g s.views id v w at in
       let mine = k.fits id v at in
       let out = k.out in (
         w,

@@ -1,31 +1,12 @@
--- Totals over the views, and what the rule says of them after one has changed.
-use Rattle.std.proofs.Common.{◌≡◌, ◌≢◌, ◌⊎◌, ℕ, zero, suc, ◌+◌, ◌<◌, ◌≤◌, List, [], ◌∷◌, ◌++◌, length, set, sym, refl, ap, ◌∙◌, subst, inl, inr, ⊎_elim, arith}
+-- What the rule says of the views after one has changed, and with one more.
+use Rattle.std.proofs.Common.{◌≡◌, ◌≢◌, ◌⊎◌, ℕ, zero, suc, ◌<◌, ◌≤◌, List, [], ◌∷◌, ◌++◌, length, set, sym, refl, ap, ◌∙◌, subst, inl, inr, ⊎_elim, arith}
 use mathlib.Core.Option.{some, some-injective, some-ne-none}
 use lib.ListN.{get_elem?}
 use Rattle.atomic_table.proofs.Lists.{at_set, set_else}
 use Rattle.turnstile.specs.declared.view.View.{View}
 use Rattle.turnstile.specs.declared.view.Stage.{Stage}
 use Rattle.turnstile.specs.declared.view.Stage.TheVariants.{Idle, Waits, Inside}
-use Rattle.turnstile.specs.Turns.{HasTicket, tickets, total, Apart, NobodyInside, SomebodyInside}
-
-module _ {A : Type 0} (f : A → ℕ) where
-  pub total_set : (l : List A) (i : ℕ) (v w : A) → get_elem? l i ≡ some v → total f (set l i w) + f v ≡ total f l + f w
-  total_set [] i v w e = absurd (some-ne-none v (sym e))
-  total_set (x ∷ xs) zero v w e = let is : f x ≡ f v = ap f (some-injective x v e) in omega arith
-  total_set (x ∷ xs) (suc i) v w e = let r = total_set xs i v w e in omega arith
-
-  pub total_snoc : (l : List A) (v : A) → total f (l ++ v ∷ []) ≡ total f l + f v
-  total_snoc [] v = omega arith
-  total_snoc (x ∷ xs) v = let r = total_snoc xs v in omega arith
-
-  pub total_has : (l : List A) (i : ℕ) (v : A) → get_elem? l i ≡ some v → f v ≤ total f l
-  total_has [] i v e = absurd (some-ne-none v (sym e))
-  total_has (x ∷ xs) zero v e = let is : f x ≡ f v = ap f (some-injective x v e) in omega arith
-  total_has (x ∷ xs) (suc i) v e = let r = total_has xs i v e in omega arith
-
-pub total_le : {A : Type 0} (f g : A → ℕ) (l : List A) → ((i : ℕ) (v : A) → get_elem? l i ≡ some v → f v ≤ g v) → total f l ≤ total g l
-total_le f g [] h = omega arith
-total_le f g (x ∷ xs) h = let here = h zero x refl in let r = total_le f g xs (λ i v e. h (suc i) v e) in omega arith
+use Rattle.turnstile.specs.Turns.{HasTicket, tickets, Apart, NobodyInside, SomebodyInside}
 
 pub here_set : {A : Type 0} (l : List A) (i : ℕ) (v w : A) → get_elem? l i ≡ some v → get_elem? (set l i w) i ≡ some w
 here_set [] i v w e = absurd (some-ne-none v (sym e))
@@ -81,11 +62,6 @@ at_end [] a b zero e = inr (refl, some-injective a b e)
 at_end [] a b (suc j) e = absurd (some-ne-none b (sym e))
 at_end (x ∷ xs) a b zero e = inl ((λ h. omega arith), e)
 at_end (x ∷ xs) a b (suc j) e = ⊎_elim (λ t. let n = t.0 in inl ((λ h. n (omega arith)), t.1)) (λ t. inr (ap suc t.0, t.1)) (at_end xs a b j e)
-
-pub at_longer : {A : Type 0} (l m : List A) (i : ℕ) (a : A) → get_elem? l i ≡ some a → get_elem? (l ++ m) i ≡ some a
-at_longer [] m i a e = absurd (some-ne-none a (sym e))
-at_longer (x ∷ xs) m zero a e = e
-at_longer (x ∷ xs) m (suc i) a e = at_longer xs m i a e
 
 pub set_swap : {A : Type 0} (l : List A) (i j : ℕ) (a b : A) → i ≢ j → set (set l i a) j b ≡ set (set l j b) i a
 set_swap [] i j a b ne = refl

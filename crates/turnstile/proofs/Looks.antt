@@ -1,18 +1,19 @@
 -- A look at the ticket that is served keeps the rule. Where the turn has come, it takes the slot.
-use Rattle.std.proofs.Common.{◌≡◌, ◌≢◌, ℕ, ◌+◌, ◌^◌, ◌<◌, ◌≤◌, List, [], ◌∷◌, length, get_or, set, sym, refl, ap, ◌∙◌, subst, inr, ⊎_elim, arith}
+use Rattle.std.proofs.Common.{sum_by, ◌≡◌, ◌≢◌, ℕ, ◌+◌, ◌^◌, ◌<◌, ◌≤◌, List, [], ◌∷◌, length, get_or, set, sym, refl, ap, ◌∙◌, subst, inr, ⊎_elim, arith}
 use mathlib.Core.Option as maybe
 use mathlib.Core.Option.{some, none, some-injective}
 use mathlib.Core.Logic.{dite}
 use native.Mathlib.Decide.{ℕ_discrete}
 use lib.ListN.{get_elem?}
+use Rattle.a1_base.proofs.Sums.{sum_set, sum_le}
 use Rattle.std.specs.Prelude.{Option, Some}
 use Rattle.atomic_table.specs.Table.{State, Me, keeps, takes, stepped, carried_after, Allows}
 use Rattle.atomic_table.proofs.Lists.{set_again, one_turn}
 use Rattle.turnstile.specs.declared.view.View.{View}
 use Rattle.turnstile.specs.declared.view.Stage.{Stage}
 use Rattle.turnstile.specs.declared.view.Stage.TheVariants.{Waits, Inside}
-use Rattle.turnstile.specs.Turns.{word_of, HasTicket, tickets, total, view, Fits, Kept, LookedAt}
-use Rattle.turnstile.proofs.Lists.{total_set, total_le, each_set, apart_set, tickets_le, here_set}
+use Rattle.turnstile.specs.Turns.{word_of, HasTicket, tickets, view, Fits, Kept, LookedAt}
+use Rattle.turnstile.proofs.Lists.{each_set, apart_set, tickets_le, here_set}
 use Rattle.turnstile.proofs.Histories.{begins_none, begins_itself}
 
 module _ {T E : Type 0} (stands : T → List E → Type 0) (number : E → ℕ) (passes : ℕ) (start : E) where
@@ -22,7 +23,7 @@ module _ {T E : Type 0} (stands : T → List E → Type 0) (number : E → ℕ) 
   -- fewer than 2^32 tickets are out
   pub near : (s : State (Option T) (View E)) (k : K s) → k.drawn < k.served + 2 ^ 32
   near s k =
-      let le = total_le (λ (v : View E). tickets v.stage) (λ (v : View E). length v.numbers) s.views (λ i v e. tickets_le v (λ n t. ((k.fits i v e).ticket n t).2)) in
+      let le = sum_le (λ (v : View E). tickets v.stage) (λ (v : View E). length v.numbers) s.views (λ i v e. tickets_le v (λ n t. ((k.fits i v e).ticket n t).2)) in
       let out = k.out in let held = k.held in let few = k.few in omega arith
 
   pub serving_is : (s : State (Option T) (View E)) (k : K s) → get_or s.words 1 0 ≡ word_of k.served
@@ -69,8 +70,8 @@ module _ {T E : Type 0} (stands : T → List E → Type 0) (number : E → ℕ) 
       let w : View E = view (Inside d) v.numbers k.log in
       let f : View E → ℕ = λ z. tickets z.stage in
       let g : View E → ℕ = λ z. length z.numbers in
-      let sum : total f (set s.views id w) + f v ≡ total f s.views + f w = total_set f s.views id v w at in
-      let sum' : total g (set s.views id w) + g v ≡ total g s.views + g w = total_set g s.views id v w at in
+      let sum : sum_by f (set s.views id w) + f v ≡ sum_by f s.views + f w = sum_set f s.views id v w at in
+      let sum' : sum_by g (set s.views id w) + g v ≡ sum_by g s.views + g w = sum_set g s.views id v w at in
       let one : f v ≡ 1 = ap tickets waits in
       let out = k.out in (
         w,

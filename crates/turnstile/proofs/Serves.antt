@@ -1,14 +1,15 @@
 -- The end of a turn brings the slot home, serves the next ticket, and keeps the rule.
-use Rattle.std.proofs.Common.{◌≡◌, ◌≢◌, ℕ, ◌+◌, ◌%◌, ◌^◌, List, [], ◌∷◌, length, get_or, set, sym, refl, ap, ◌∙◌, subst, inl, ⊎_elim, arith}
+use Rattle.std.proofs.Common.{sum_by, ◌≡◌, ◌≢◌, ℕ, ◌+◌, ◌%◌, ◌^◌, List, [], ◌∷◌, length, get_or, set, sym, refl, ap, ◌∙◌, subst, inl, ⊎_elim, arith}
 use mathlib.Core.Option as maybe
 use mathlib.Core.Option.{some, none}
 use Rattle.std.specs.Prelude.{Option, Some}
 use Rattle.atomic_table.specs.Table.{State, Me, gives, Allows}
+use Rattle.a1_base.proofs.Sums.{sum_set}
 use Rattle.turnstile.specs.declared.view.View.{View}
 use Rattle.turnstile.specs.declared.view.Stage.{Stage}
 use Rattle.turnstile.specs.declared.view.Stage.TheVariants.{Idle, Inside}
-use Rattle.turnstile.specs.Turns.{word_of, HasTicket, tickets, total, view, Fits, Kept, Gone}
-use Rattle.turnstile.proofs.Lists.{total_set, each_set, apart_set}
+use Rattle.turnstile.specs.Turns.{word_of, HasTicket, tickets, view, Fits, Kept, Gone}
+use Rattle.turnstile.proofs.Lists.{each_set, apart_set}
 use Rattle.turnstile.proofs.Histories.{begins_none}
 use Rattle.turnstile.proofs.Looks.{serving_is}
 use Rattle.turnstile.proofs.Draws.{next_word}
@@ -24,8 +25,8 @@ module _ {T E : Type 0} (stands : T → List E → Type 0) (number : E → ℕ) 
       let w : View E = view Idle v.numbers v.seen in
       let f : View E → ℕ = λ z. tickets z.stage in
       let g : View E → ℕ = λ z. length z.numbers in
-      let sum : total f (set s.views id w) + f v ≡ total f s.views + f w = total_set f s.views id v w at in
-      let sum' : total g (set s.views id w) + g v ≡ total g s.views + g w = total_set g s.views id v w at in
+      let sum : sum_by f (set s.views id w) + f v ≡ sum_by f s.views + f w = sum_set f s.views id v w at in
+      let sum' : sum_by g (set s.views id w) + g v ≡ sum_by g s.views + g w = sum_set g s.views id v w at in
       let one : f v ≡ 1 = ap tickets inside in
       let mine = k.fits id v at in
       let now : n ≡ k.served = (mine.inside n inside).0 in

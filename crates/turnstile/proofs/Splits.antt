@@ -1,13 +1,14 @@
 -- Splitting a seat keeps the rule.
-use Rattle.std.proofs.Common.{◌≡◌, ℕ, ◌+◌, List, [], ◌∷◌, ◌++◌, length, set, sym, ap, subst, inl, inr, ⊎_elim, arith}
+use Rattle.std.proofs.Common.{sum_by, ◌≡◌, ℕ, ◌+◌, List, [], ◌∷◌, ◌++◌, length, set, sym, ap, subst, inl, inr, ⊎_elim, arith}
 use Rattle.std.specs.Prelude.{Option}
 use Rattle.atomic_table.specs.Table.{State, Splits}
-use Rattle.atomic_table.proofs.Lists.{at_set}
+use Rattle.atomic_table.proofs.Lists.{at_set, at_longer}
+use Rattle.a1_base.proofs.Sums.{sum_set, sum_more}
 use Rattle.turnstile.specs.declared.view.View.{View}
 use Rattle.turnstile.specs.declared.view.Stage.TheVariants.{Idle, Inside}
-use Rattle.turnstile.specs.Turns.{tickets, total, first_half, second_half, Fits, Apart, Kept}
+use Rattle.turnstile.specs.Turns.{tickets, first_half, second_half, Fits, Apart, Kept}
 use Rattle.turnstile.specs.Entries.{IsAmong}
-use Rattle.turnstile.proofs.Lists.{total_set, total_snoc, each_set, each_end, apart_set, apart_end, somebody_set, at_longer}
+use Rattle.turnstile.proofs.Lists.{each_set, each_end, apart_set, apart_end, somebody_set}
 use Rattle.turnstile.proofs.Histories.{begins_none, without_else, without_less}
 use Rattle.turnstile.proofs.Draws.{not_inside}
 
@@ -22,10 +23,10 @@ module _ {T E : Type 0} (stands : T → List E → Type 0) (number : E → ℕ) 
       let f : View E → ℕ = λ z. tickets z.stage in
       let g : View E → ℕ = λ z. length z.numbers in
       let views : List (View E) = set s.views id left in
-      let sum : total f views + f v ≡ total f s.views + f left = total_set f s.views id v left at in
-      let sum' : total g views + g v ≡ total g s.views + g left = total_set g s.views id v left at in
-      let end : total f (views ++ right ∷ []) ≡ total f views + f right = total_snoc f views right in
-      let end' : total g (views ++ right ∷ []) ≡ total g views + g right = total_snoc g views right in
+      let sum : sum_by f views + f v ≡ sum_by f s.views + f left = sum_set f s.views id v left at in
+      let sum' : sum_by g views + g v ≡ sum_by g s.views + g left = sum_set g s.views id v left at in
+      let end : sum_by f (views ++ right ∷ []) ≡ sum_by f views + f right = sum_more f views right in
+      let end' : sum_by g (views ++ right ∷ []) ≡ sum_by g views + g right = sum_more g views right in
       let none : f v ≡ 0 = ap tickets idle in
       let less = without_less n v.numbers has in
       let mine = k.fits id v at in

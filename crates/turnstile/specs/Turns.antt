@@ -1,5 +1,6 @@
 -- The rule of a turnstile's table, and what each step tells.
 use Rattle.std.specs.Prelude.{◌≡◌, ◌≢◌, ◌⊎◌, ℕ, ◌+◌, ◌%◌, ◌^◌, ◌<◌, ◌≤◌, cond, nat_lt, Bool, true, false, List, [], ◌∷◌, ◌++◌, length, Option, Some}
+use Rattle.std.specs.List.{sum_by}
 use mathlib.Core.Option as maybe
 use mathlib.Core.Option.{some, none}
 use lib.ListN.{get_elem?}
@@ -27,10 +28,6 @@ abbrev pub is_inside : Stage → Bool
 is_inside Idle = false
 is_inside (Waits m) = false
 is_inside (Inside m) = true
-
-abbrev pub total : {A : Type 0} → (A → ℕ) → List A → ℕ
-total f [] = 0
-total f (x ∷ xs) = f x + total f xs
 
 module _ {E : Type 0} where
   abbrev pub view : Stage → List ℕ → List E → View E
@@ -93,9 +90,9 @@ pub record Kept {T E : Type 0} (stands : T → List E → Type 0) (number : E �
   pub drawn : ℕ
   pub served : ℕ
   pub words : s.words ≡ word_of drawn ∷ word_of served ∷ word_of (length log) ∷ []
-  pub out : total (λ (v : View E). tickets v.stage) s.views + served ≡ drawn
+  pub out : sum_by (λ (v : View E). tickets v.stage) s.views + served ≡ drawn
   pub few : passes < 2 ^ 32
-  pub held : total (λ (v : View E). length v.numbers) s.views ≤ passes
+  pub held : sum_by (λ (v : View E). length v.numbers) s.views ≤ passes
   pub begins : Begins log (start ∷ [])
   pub zeros : entries_of number 0 log ≡ start ∷ []
   pub no_more : (k : ℕ) → passes < k → entries_of number k log ≡ []
