@@ -1,0 +1,5 @@
+pub mod Totals
+pub mod Counts
+pub mod Steps
+pub mod Closing
+pub mod Seating

@@ -1,0 +1,48 @@
+-- The rule of the clock: one word, and what its seats know.
+use Rattle.std.specs.Prelude.{◌≡◌, ℕ, ◌+◌, ◌^◌, ◌<◌, ◌≤◌, ◌==◌, min, cond, nat_lt, List, [], ◌∷◌, length, None}
+use mathlib.Core.Option.{some}
+use lib.ListN.{get_elem?}
+use Rattle.atomic_table.specs.Table.{State}
+use Rattle.snapshot_stamps.specs.declared.watch.Watch.{Watch}
+use Rattle.snapshot_stamps.specs.declared.watch.Mark.TheVariants.{Empty}
+use Rattle.snapshot_stamps.specs.Watched.{last_stamp}
+
+abbrev pub total : {A : Type 0} → (A → ℕ) → List A → ℕ
+total f [] = 0
+total f (x ∷ xs) = f x + total f xs
+
+-- how often x stands in the list
+abbrev pub times : ℕ → List ℕ → ℕ
+times x [] = 0
+times x (y ∷ ys) = cond (y == x) 1 0 + times x ys
+
+-- 1 for each number above the first and at most the second
+abbrev pub once_between : ℕ → ℕ → ℕ → ℕ
+once_between low high x = cond (nat_lt low x) (cond (nat_lt high x) 0 1) 0
+
+-- what the rule says of one seat
+pub record Fits (from clock : ℕ) (v : Watch) : Type 0 where
+  pub known : v.known ≤ clock
+  pub within : v.known ≤ last_stamp
+  pub floor : v.floor ≤ from
+  -- a lane by whose seat an addition was made at the last stamp or above knows the last stamp
+  pub over_lanes : v.over ≤ length v.lanes
+  pub over_known : 0 < v.over → v.known ≡ last_stamp
+  -- without a lane there are no additions
+  pub no_lane : v.lanes ≡ [] → (v.additions ≡ 0) × (v.drawn ≡ [])
+  -- no lane is marked, and none is looked at
+  pub rests : (v.mark ≡ Empty) × (v.loaded ≡ None) × (v.scan ≡ None)
+
+-- The clock is where it began plus all additions. Each stamp that it passed, up to the last stamp, was drawn by one seat, once.
+-- Each lane belongs to one seat
+pub record Clock (lanes from : ℕ) (s : State (Unit {0}) Watch) : Type 0 where
+  pub clock : ℕ
+  pub words : s.words ≡ clock ∷ []
+  pub counted : from + total (λ (v : Watch). v.additions) s.views ≡ clock
+  pub begun : from ≤ last_stamp
+  pub drawn : (x : ℕ) → total (λ (v : Watch). times x v.drawn) s.views ≡ once_between from (min clock last_stamp) x
+  pub few : lanes < 2 ^ 32
+  pub lanes_out : total (λ (v : Watch). length v.lanes) s.views ≡ lanes
+  pub laned : (x : ℕ) → total (λ (v : Watch). times x v.lanes) s.views ≡ once_between 0 lanes x
+  pub bounded : clock ≤ last_stamp + total (λ (v : Watch). v.over) s.views
+  pub fits : (i : ℕ) (v : Watch) → get_elem? s.views i ≡ some v → Fits from clock v

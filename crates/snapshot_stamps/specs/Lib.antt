@@ -1,0 +1,4 @@
+pub mod Watched
+pub mod Plays
+pub mod Clock
+pub mod Seats

@@ -1,0 +1,75 @@
+-- What a seat knows of the clock, and what each step makes of it.
+use Rattle.std.specs.Prelude.{◌≡◌, ◌⊎◌, ℕ, zero, suc, ◌+◌, ◌<◌, ◌≤◌, min, max, cond, nat_lt, List, [], ◌∷◌, ◌++◌, Option, Some, None}
+use Rattle.snapshot_stamps.specs.declared.watch.Watch.{Watch}
+use Rattle.snapshot_stamps.specs.declared.watch.Mark.TheVariants.{Empty}
+
+abbrev pub last_stamp : ℕ
+last_stamp = 4611686018427387903
+
+-- the numbers of so many lanes, from that one on
+abbrev pub lanes_from : ℕ → ℕ → List ℕ
+lanes_from first zero = []
+lanes_from first (suc n) = first ∷ lanes_from (suc first) n
+
+-- a seat that knows a stamp, and has made no step
+abbrev pub newcomer : ℕ → List ℕ → Watch
+newcomer from lanes = record { known = from; drawn = []; additions = 0; lanes = lanes; over = 0; mark = Empty; loaded = None; floor = from; scan = None }
+
+abbrev pub knowing : ℕ → Watch → Watch
+knowing n v = record v { known = n }
+
+-- what a note of a seat knows
+abbrev pub noted : Watch → Watch
+noted v = record v { drawn = []; additions = 0; lanes = []; over = 0; mark = Empty; loaded = None; scan = None }
+
+-- the first lane of several that have made no step, and the others
+abbrev pub first_lane : Watch → Watch
+first_lane v = record v { lanes = first v.lanes } where
+  first : List ℕ → List ℕ
+  first [] = []
+  first (k ∷ ks) = k ∷ []
+
+abbrev pub other_lanes : Watch → Watch
+other_lanes v = record (noted v) { lanes = others v.lanes } where
+  others : List ℕ → List ℕ
+  others [] = []
+  others (k ∷ ks) = ks
+
+-- two seats in one
+abbrev pub joined : Watch → Watch → Watch
+joined v w = record v { known = max v.known w.known; drawn = v.drawn ++ w.drawn; additions = v.additions + w.additions; lanes = v.lanes ++ w.lanes; over = v.over + w.over; floor = max v.floor w.floor }
+
+-- what is left of a seat that another took in
+abbrev pub spent : Watch
+spent = newcomer 0 []
+
+-- the same seat, which knows no less
+abbrev pub Learned : Watch → Watch → Type 0
+Learned v w = (v.known ≤ w.known) × (w ≡ knowing w.known v)
+
+-- the clock was seen at n: the lesser of it and the last stamp is known now
+abbrev pub Sees : ℕ → Watch → Watch → Type 0
+Sees n v w = (v.known ≤ n) × (w ≡ knowing (min n last_stamp) v)
+
+-- the stamp is known now, as the last that was drawn
+abbrev pub having_drawn : ℕ → Watch → Watch
+having_drawn w v = record v { known = w; drawn = v.drawn ++ w ∷ []; additions = v.additions + 1 }
+
+-- one was added to the clock, which stood at n: the new stamp is drawn and known, or the last stamp was passed
+abbrev pub Adds : ℕ → Watch → Watch → Type 0
+Adds n v w =
+    (v.known ≤ n)
+    × (n < last_stamp → w ≡ having_drawn (n + 1) v)
+    × (last_stamp ≤ n → w ≡ record v { known = last_stamp; additions = v.additions + 1; over = v.over + 1 })
+
+-- what a draw answers where the clock was seen at n
+abbrev pub drawn_at : ℕ → Option ℕ
+drawn_at n = cond (nat_lt n last_stamp) (Some (n + 1)) None
+
+-- A draw: the clock is seen, and then one is added. Nothing is drawn exactly where the clock that was seen stands at the
+-- last stamp or above, or is raised above it
+abbrev pub Draws : Watch → Option ℕ → Watch → Type 0
+Draws v answer w =
+    (seen : ℕ) × (between : Watch) × Sees seen v between
+    × (((last_stamp ≤ seen) × (answer ≡ None) × (w ≡ between))
+    ⊎ ((seen < last_stamp) × ((n : ℕ) × Adds n between w × (answer ≡ drawn_at n))))

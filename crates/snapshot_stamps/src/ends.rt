@@ -1,0 +1,119 @@
+//! How a clock is made, and how it ends.
+ghost use Rattle.std.specs.Prelude.{◌≡◌, ◌<◌, ◌≤◌, [], ◌∷◌, length, IfOk};
+ghost use Rattle.snapshot_stamps.specs.Watched.{last_stamp, lanes_from, newcomer, first_lane, other_lanes, joined, Learned};
+ghost use Rattle.snapshot_stamps.specs.Seats.{lane_count, began_at, watch, IsSeatOf, AreSeatsOf, HaveAllLanes, Ended};
+
+use crate::rule::{LaneCut, Opened, SeatsJoined};
+use crate::seat::{StampSeat, Stamps};
+use crate::stamps::{CLOCK, LAST_STAMP};
+use crate::watch::Watch;
+use a1_base::Memory;
+use atomic_table::{Seat, Table};
+use std::alloc::Global;
+
+impl Stamps {
+    /// A clock that stands at the stamp `from`, and a seat for each of its lanes, which knows that stamp.
+    ///
+    /// There is at least one lane, and `from` goes from 1 to 2^62 - 1. `Memory` where an allocation is refused; no other
+    /// call takes memory.
+    pub fn new(alloc: Global, lanes: u32, from: u64) -> Result<(Stamps, Vec<StampSeat>), Memory>
+        requires lanes { 0 < lanes }
+        requires from { (0 < from) × (from ≤ last_stamp) }
+        ensures clock { IfOk result (λ r. (lane_count r.0 ≡ lanes) × (began_at r.0 ≡ from)) }
+        ensures seats { IfOk result (λ r. AreSeatsOf r.0 r.1.items) }
+    {
+        let (table, rest) = Table::of_words(alloc, &[from], &Opened { lanes, from })?;
+        let stamps = Stamps { table };
+        let seats = stamps.seats(alloc, rest, lanes)?;
+        Ok((stamps, seats))
+    }
+
+    fn seats(
+        &self,
+        alloc: Global,
+        mut rest: Seat<(), Watch>,
+        lanes: u32,
+    ) -> Result<Vec<StampSeat>, Memory>
+        requires lanes { lanes ≡ lane_count self.now }
+        requires table { rest.table_id ≡ self.now.table.shared.table_id }
+        requires rest { rest.me ≡ (newcomer (began_at self.now) (lanes_from 1 lanes), []) }
+        ensures { IfOk result (λ seats. AreSeatsOf self.now seats.items) }
+    {
+        let mut seats = Vec::new(alloc);
+        for _taken in 0..lanes {
+            let (seat, others) = self.first_seat(rest);
+            rest = others;
+            if seats.push(seat).is_err() {
+                return Err(Memory);
+            }
+        }
+        Ok(seats)
+    }
+
+    fn first_seat(&self, mut rest: Seat<(), Watch>) -> (StampSeat, Seat<(), Watch>)
+        requires table { rest.table_id ≡ self.now.table.shared.table_id }
+        requires rest { rest.me ≡ (newcomer (began_at self.now) rest.me.0.lanes, []) }
+        requires some_lane { 0 < length rest.me.0.lanes }
+        ensures first { IsSeatOf self.now result.0 × (watch result.0 ≡ first_lane rest.me.0) }
+        ensures others { (result.1.table_id ≡ self.now.table.shared.table_id) × (result.1.me ≡ (other_lanes rest.me.0, [])) }
+    {
+        let others = self.table.shared.split_seat::<LaneCut>(&mut rest);
+        let first = StampSeat {
+            seat: rest,
+            draws: 0,
+        };
+        (first, others)
+    }
+
+    /// One seat in place of two: it has the lanes of both, knows what either knew, and has drawn what they drew. For the
+    /// end of a clock. It waits for nothing, and takes no memory.
+    pub fn unite(&self, a: StampSeat, b: StampSeat) -> StampSeat
+        requires seats { IsSeatOf self.now a × IsSeatOf self.now b }
+        ensures seat { IsSeatOf self.now result }
+        ensures learned { Learned (joined (watch a) (watch b)) (watch result) }
+    {
+        let StampSeat { mut seat, draws } = a;
+        let StampSeat {
+            seat: other,
+            draws: others,
+        } = b;
+        self.table.shared.join_seat::<SeatsJoined>(&mut seat, other);
+        self.load(&mut seat);
+        StampSeat {
+            seat,
+            draws: draws + others,
+        }
+    }
+
+    /// Ends the clock with the seats of all its lanes, and answers where it stands: at most 2^62 - 1, and at least each
+    /// stamp that a seat knew. It waits for nothing, and takes no memory.
+    pub fn close(self, mut seats: Vec<StampSeat>) -> u64
+        requires { HaveAllLanes self seats.items }
+        ensures { Ended self seats.items result }
+    {
+        let Some(mut whole) = seats.pop() else {
+            unreachable!()
+        };
+        while let Some(seat) = seats.pop() {
+            whole = self.unite(whole, seat);
+        }
+        self.close_with(whole)
+    }
+
+    /// Ends the clock with the one seat of all its lanes, as `close` does.
+    pub fn close_with(self, seat: StampSeat) -> u64
+        requires { HaveAllLanes self (seat ∷ []) }
+        ensures { Ended self (seat ∷ []) result }
+    {
+        let Stamps { table } = self;
+        let StampSeat { seat, draws: _ } = seat;
+        let closed = table.close_with(seat);
+        let clock = closed.word(CLOCK);
+        closed.free();
+        if clock < LAST_STAMP {
+            clock
+        } else {
+            LAST_STAMP
+        }
+    }
+}
