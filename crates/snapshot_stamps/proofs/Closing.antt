@@ -1,6 +1,6 @@
 -- The seats of all lanes at the end of the clock.
-use Rattle.std.proofs.Common.{◌≡◌, ℕ, ◌+◌, ◌≤◌, min, List, [], ◌∷◌, ◌++◌, length, length-append, All, sym, ap, ◌∙◌, arith}
-use Rattle.std.proofs.lemmas.List.Elements.{All-nil, All-cons, All-head, All-push}
+use Rattle.std.proofs.Common.{◌≡◌, ℕ, ◌+◌, ◌≤◌, min, List, [], ◌∷◌, ◌++◌, length, length-append, All, Some, refl, sym, ap, ◌∙◌, arith}
+use Rattle.std.proofs.lemmas.List.Elements.{All-nil, All-cons, All-head, All-push, All-pop}
 use mathlib.Core.Option.{some, some-injective}
 use lib.ListN.{get_elem?}
 use Rattle.atomic_table.specs.Table.{Final, Seen}
@@ -9,7 +9,7 @@ use Rattle.snapshot_stamps.specs.declared.seat.StampSeat.{StampSeat}
 use Rattle.snapshot_stamps.specs.declared.seat.Stamps.{Stamps}
 use Rattle.snapshot_stamps.specs.Watched.{last_stamp, joined, Learned}
 use Rattle.snapshot_stamps.specs.Clock.{total, times, once_between, Clock}
-use Rattle.snapshot_stamps.specs.Seats.{watch, lane_count, began_at, Ended}
+use Rattle.snapshot_stamps.specs.Seats.{watch, lane_count, began_at, IsSeatOf, HaveAllLanes, Ended}
 use Rattle.snapshot_stamps.proofs.Totals.{total_snoc, total_only}
 use Rattle.snapshot_stamps.proofs.Counts.{times_append}
 use Rattle.snapshot_stamps.proofs.Steps.{no_length}
@@ -88,3 +88,15 @@ ends_all stamps all s answer g end =
       g.known answer (All-head (λ (s : StampSeat). (watch s).known ≤ answer) s [] end.1) (All-nil (λ (s : StampSeat). (watch s).known ≤ answer)),
       λ x. let d = g.drawn x in let q = end.2 x in omega arith,
     )
+
+-- a seat goes back to the others, with its lanes
+pub given_back : (stamps : Stamps) (others : List StampSeat) (s t : StampSeat) → HaveAllLanes stamps (others ++ s ∷ []) → IsSeatOf stamps t → (watch t).lanes ≡ (watch s).lanes
+    → HaveAllLanes stamps (others ++ t ∷ [])
+given_back stamps others s t all is lanes =
+    let f : StampSeat → ℕ = λ s. length (watch s).lanes in
+    let old = total_snoc f others s in
+    let new = total_snoc f others t in
+    let same : f t ≡ f s = ap (λ (l : List ℕ). length l) lanes in
+    let sum = all.1 in
+    let each = All-pop (IsSeatOf stamps) (others ++ s ∷ []) others (Some s) refl all.0 in
+    (All-push (IsSeatOf stamps) others t each.0 is, omega arith)

@@ -1,13 +1,14 @@
 -- A seat for each lane, one lane after another.
-use Rattle.std.proofs.Common.{◌≡◌, ℕ, suc, ◌+◌, ◌-◌, ◌<◌, List, [], ◌∷◌, ◌++◌, All, map, sym, ap, ◌∙◌, arith}
+use Rattle.std.proofs.Common.{◌≡◌, ℕ, suc, ◌+◌, ◌-◌, ◌<◌, List, [], ◌∷◌, ◌++◌, length, All, map, refl, sym, ap, ◌∙◌, arith}
 use Rattle.std.proofs.lemmas.List.{map-append}
 use Rattle.std.proofs.lemmas.List.Elements.{All-push}
 use Rattle.snapshot_stamps.specs.declared.watch.Watch.{Watch}
 use Rattle.snapshot_stamps.specs.declared.seat.Stamps.{Stamps}
 use Rattle.snapshot_stamps.specs.declared.seat.StampSeat.{StampSeat}
 use Rattle.snapshot_stamps.specs.Watched.{newcomer, lanes_from, first_lane, other_lanes}
-use Rattle.snapshot_stamps.specs.Seats.{watch, began_at, IsSeatOf}
-use Rattle.snapshot_stamps.proofs.Counts.{lanes_snoc}
+use Rattle.snapshot_stamps.specs.Clock.{total}
+use Rattle.snapshot_stamps.specs.Seats.{watch, lane_count, began_at, IsSeatOf, AreSeatsOf, HaveAllLanes}
+use Rattle.snapshot_stamps.proofs.Counts.{lanes_length, lanes_snoc}
 
 -- these are the seats of the first n lanes
 abbrev pub Seated : Stamps → ℕ → List StampSeat → Type 0
@@ -35,3 +36,21 @@ first_of from n left v is m left_is =
 pub lane_taken : (from n lanes : ℕ) (v : Watch) → v ≡ newcomer from (lanes_from (n + 1) (lanes - n)) → n < lanes
     → (first_lane v ≡ newcomer from ((n + 1) ∷ [])) × (other_lanes v ≡ newcomer from (lanes_from (n + 1 + 1) (lanes - (n + 1))))
 lane_taken from n lanes v is less = first_of from n (lanes - n) v is (lanes - (n + 1)) (omega arith)
+
+lanes_total : (from : ℕ) (seats : List StampSeat) (numbers : List ℕ) → map watch seats ≡ map (λ k. newcomer from (k ∷ [])) numbers
+    → total (λ (s : StampSeat). length (watch s).lanes) seats ≡ length numbers
+lanes_total from [] [] is = refl
+lanes_total from [] (k ∷ ks) is = cc
+lanes_total from (s ∷ seats) [] is = cc
+lanes_total from (s ∷ seats) (k ∷ ks) is =
+    let first : watch s ≡ newcomer from (k ∷ []) = cc in
+    let others : map watch seats ≡ map (λ k. newcomer from (k ∷ [])) ks = cc in
+    let one : length (watch s).lanes ≡ 1 = ap (λ (v : Watch). length v.lanes) first in
+    let r = lanes_total from seats ks others in
+    omega arith
+
+pub all_seated : (stamps : Stamps) (n : ℕ) (seats : List StampSeat) → Seated stamps n seats → n ≡ lane_count stamps → AreSeatsOf stamps seats × HaveAllLanes stamps seats
+all_seated stamps n seats seated all =
+    let f : ℕ → Watch = λ k. newcomer (began_at stamps) (k ∷ []) in
+    let are : map watch seats ≡ map f (lanes_from 1 (lane_count stamps)) = seated.1 ∙ ap (λ (k : ℕ). map f (lanes_from 1 k)) all in
+    ((seated.0, are), (seated.0, lanes_total (began_at stamps) seats (lanes_from 1 (lane_count stamps)) are ∙ lanes_length 1 (lane_count stamps)))

@@ -21,6 +21,7 @@ impl Stamps {
         requires from { (0 < from) × (from ≤ last_stamp) }
         ensures clock { IfOk result (λ r. (lane_count r.0 ≡ lanes) × (began_at r.0 ≡ from)) }
         ensures seats { IfOk result (λ r. AreSeatsOf r.0 r.1.items) }
+        ensures lanes { IfOk result (λ r. HaveAllLanes r.0 r.1.items) }
     {
         let (table, rest) = Table::of_words(alloc, &[from], &Opened { lanes, from })?;
         let stamps = Stamps { table };
@@ -37,7 +38,7 @@ impl Stamps {
         requires lanes { lanes ≡ lane_count self.now }
         requires table { rest.table_id ≡ self.now.table.shared.table_id }
         requires rest { rest.me ≡ (newcomer (began_at self.now) (lanes_from 1 lanes), []) }
-        ensures { IfOk result (λ seats. AreSeatsOf self.now seats.items) }
+        ensures { IfOk result (λ seats. AreSeatsOf self.now seats.items × HaveAllLanes self.now seats.items) }
     {
         let mut seats = Vec::new(alloc);
         for _taken in 0..lanes {

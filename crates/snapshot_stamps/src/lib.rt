@@ -12,6 +12,8 @@ mod ends;
 mod rule;
 mod seat;
 mod stamps;
+#[cfg(test)]
+mod tests;
 mod watch;
 
 pub use rule::{ClockRule, Opened};

@@ -1,5 +1,6 @@
 //! What a seat does at the clock.
-ghost use Rattle.std.specs.Prelude.{◌≡◌, ℕ, ◌<◌, ◌≤◌, ◌+◌, [], IfSome, IfNone, length};
+ghost use Rattle.std.specs.Prelude.{◌≡◌, ℕ, ◌<◌, ◌≤◌, ◌++◌, IfSome, IfNone, length};
+ghost use Rattle.std.specs.Option.{option_to_list};
 ghost use Rattle.snapshot_stamps.specs.Watched.{last_stamp, noted, joined, having_drawn, Learned, Sees, Draws};
 ghost use Rattle.snapshot_stamps.specs.Plays.{Reads, Raises};
 ghost use Rattle.snapshot_stamps.specs.Seats.{watch, noted_watch, IsSeatOf, IsNoteOf};
@@ -54,6 +55,7 @@ impl Stamps {
         requires { IsSeatOf self.now seat.old }
         ensures seat { IsSeatOf self.now seat.new }
         ensures clock { (n : ℕ) × Sees n (watch seat.old) (watch seat.new) × (result ≡ (watch seat.new).known) }
+        ensures learned { Learned (watch seat.old) (watch seat.new) }
         ensures known { ((watch seat.old).known ≤ result) × (result ≤ last_stamp) }
     {
         let found = self.load(&mut seat.seat);
@@ -94,6 +96,8 @@ impl Stamps {
         ensures seat { IsSeatOf self.now seat.new }
         ensures some { IfSome result (λ w. ((watch seat.old).known < w) × (w ≤ last_stamp) × (watch seat.new ≡ having_drawn w (watch seat.old))) }
         ensures none { IfNone result ((watch seat.new).known ≡ last_stamp) }
+        ensures drawn { (watch seat.new).drawn ≡ (watch seat.old).drawn ++ option_to_list result }
+        ensures lanes { (watch seat.new).lanes ≡ (watch seat.old).lanes }
         ensures steps { Draws (watch seat.old) result (watch seat.new) }
     {
         if self.now(seat) >= LAST_STAMP {

@@ -1,10 +1,10 @@
-use Rattle.std.proofs.Common.{◌+◌, List, Bool, true, ◌≡◌, [], ◌∷◌, ◌++◌, if◌then◌else◌, sym, subst, ap, ◌∙◌}
+use Rattle.std.proofs.Common.{◌+◌, List, Bool, true, ◌≡◌, [], ◌∷◌, ◌++◌, if◌then◌else◌, arith, sym, subst, ap, ◌∙◌}
 use mathlib.Core.Bool.{not}
 use Rattle.std.specs.Result.{is_ok}
 use Rattle.snapshot_stamps.specs.declared.watch.Watch.{Watch}
 use Rattle.snapshot_stamps.specs.declared.seat.StampSeat.{StampSeat}
-use Rattle.snapshot_stamps.specs.Seats.{began_at}
-use Rattle.snapshot_stamps.proofs.Seating.{Seated, seated_more, lane_taken}
+use Rattle.snapshot_stamps.specs.Seats.{lane_count, began_at}
+use Rattle.snapshot_stamps.proofs.Seating.{Seated, seated_more, all_seated, lane_taken}
 use Rattle.snapshot_stamps.proofs.Steps.{M}
 use Rattle.snapshot_stamps.proofs.seat.Stamps.seats.Goals as goal
 
@@ -23,3 +23,8 @@ loop-taken-preserved c =
       subst (λ (z : List StampSeat). Seated c.args.self.now (c.loop-taken._taken + 1) z) (sym pushed)
           (seated_more c.args.self.now c.loop-taken._taken old seat c.loop-taken.invariant.2 first.0 (first.1 ∙ taken.0)),
     )
+
+pub returns : goal.returns
+returns c =
+    let all : c.loop-taken._taken ≡ lane_count c.args.self.now = let lanes = c.requires.lanes in omega arith in
+    all_seated c.args.self.now c.loop-taken._taken c.loop-taken.seats.items c.loop-taken.invariant.2 all
