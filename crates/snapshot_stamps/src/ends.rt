@@ -111,10 +111,6 @@ impl Stamps {
         let closed = table.close_with(seat);
         let clock = closed.word(CLOCK);
         closed.free();
-        if clock < LAST_STAMP {
-            clock
-        } else {
-            LAST_STAMP
-        }
+        clock.min(LAST_STAMP)
     }
 }

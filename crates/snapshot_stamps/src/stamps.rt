@@ -58,12 +58,7 @@ impl Stamps {
         ensures learned { Learned (watch seat.old) (watch seat.new) }
         ensures known { ((watch seat.old).known ≤ result) × (result ≤ last_stamp) }
     {
-        let found = self.load(&mut seat.seat);
-        if found < LAST_STAMP {
-            found
-        } else {
-            LAST_STAMP
-        }
+        self.load(&mut seat.seat).min(LAST_STAMP)
     }
 
     /// Waits until the clock is at least the stamp `m`, at most 2^62 - 1, and the seat knows it.
