@@ -16,9 +16,6 @@ times_here x = ap (λ (b : Bool). cond b 1 0 + 0) (eq-eqb x x refl)
 times_else : (x y : ℕ) → y ≢ x → times x (y ∷ []) ≡ 0
 times_else x y ne = ap (λ (b : Bool). cond b 1 0 + 0) (ne_eqb y x ne)
 
-between_none : (low x : ℕ) → once_between low low x ≡ 0
-between_none low x = grind (arith, nat_tests)
-
 between_here : (low high : ℕ) → low ≤ high → once_between low (high + 1) (high + 1) ≡ once_between low high (high + 1) + 1
 between_here low high le = grind (arith, nat_tests)
 

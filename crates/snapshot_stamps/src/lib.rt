@@ -16,6 +16,5 @@ mod stamps;
 mod tests;
 mod watch;
 
-pub use rule::{ClockRule, Opened};
 pub use seat::{Note, StampSeat, Stamps};
 pub use watch::{Mark, Scan, Watch};

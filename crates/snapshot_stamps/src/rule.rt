@@ -4,13 +4,13 @@ use atomic_table::{Join, Play, Split, TableRule};
 
 /// How many lanes a clock has, and where it began.
 #[derive(Drop)]
-pub struct Opened {
-    pub lanes: u32,
-    pub from: u64,
+pub(crate) struct Opened {
+    pub(crate) lanes: u32,
+    pub(crate) from: u64,
 }
 
 /// What holds of the clock and all its seats between any two steps.
-pub struct ClockRule;
+pub(crate) struct ClockRule;
 
 impl TableRule<(), Watch, Opened> for ClockRule {
     ghost use Rattle.snapshot_stamps.specs.Clock.{Clock};

@@ -1,10 +1,12 @@
 //! What a seat knows of the clock. No value of these types is made: they are what contracts speak of.
 use std::collections::LinkedList;
 
-/// What stands in a seat's lane: nothing, the mark that holds back every stamp, or the stamp that is pinned.
+/// What stands in a seat's lane.
 pub enum Mark {
     Empty,
+    /// A pin is being set: until its stamp is stored, every stamp counts as pinned.
     All,
+    /// The stamp that is pinned.
     Pinned(u64),
 }
 
@@ -28,7 +30,7 @@ pub struct Watch {
     pub drawn: LinkedList<u64>,
     /// How often the seat has added to the clock.
     pub additions: u64,
-    /// The numbers of the seat's lanes, from 1 on. As with the other fields there is never a value, and so no length.
+    /// The numbers of the seat's lanes, from 1 on. Contracts see a list.
     pub lanes: [u64; 0],
     /// How many of the additions were made where the clock stood at the last stamp or above.
     pub over: u64,
