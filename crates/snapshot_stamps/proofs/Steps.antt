@@ -13,8 +13,8 @@ use Rattle.snapshot_stamps.specs.Clock.{total, times, once_between, Fits, Clock}
 use Rattle.snapshot_stamps.proofs.Totals.{total_set, total_same, total_snoc, total_has, total_le, each_set, each_end}
 use Rattle.snapshot_stamps.proofs.Counts.{times_append, between_next, no_between, lanes_length, lanes_times}
 
-abbrev pub M : Type 0
-M = Me (Unit {0}) Watch
+abbrev pub Mine : Type 0
+Mine = Me (Unit {0}) Watch
 
 pub no_length : (l : List ℕ) → length l ≡ 0 → l ≡ []
 no_length [] e = refl
@@ -24,10 +24,10 @@ some_length : (l : List ℕ) → 0 < length l → l ≡ [] → ⊥
 some_length l some_lane none = let e : length l ≡ 0 = ap (λ (z : List ℕ). length z) none in omega arith
 
 module _ (lanes from : ℕ) where
-  abbrev K : State (Unit {0}) Watch → Type 0
-  K = Clock lanes from
+  abbrev Kept : State (Unit {0}) Watch → Type 0
+  Kept = Clock lanes from
 
-  module _ (s : State (Unit {0}) Watch) (k : K s) where
+  module _ (s : State (Unit {0}) Watch) (k : Kept s) where
     clock_is : get_or s.words 0 0 ≡ k.clock
     clock_is = ap (λ (z : List ℕ). get_or z 0 0) k.words
 
@@ -46,7 +46,7 @@ module _ (lanes from : ℕ) where
           → k.clock + more + v.over ≤ last_stamp + total (λ (z : Watch). z.over) s.views + w.over
           → ((x : ℕ) → times x w.drawn + once_between from (min k.clock last_stamp) x ≡ times x v.drawn + once_between from (min (k.clock + more) last_stamp) x)
           → Fits from (k.clock + more) w
-          → K record { words = set s.words 0 next; homes = s.homes; views = set s.views id w }
+          → Kept record { words = set s.words 0 next; homes = s.homes; views = set s.views id w }
       moved next is added laned over drew fit =
           let added' = total_set (λ (z : Watch). z.additions) s.views id v w at in
           let over' = total_set (λ (z : Watch). z.over) s.views id v w at in
@@ -65,7 +65,7 @@ module _ (lanes from : ℕ) where
                 fit;
           }
 
-  pub reads : (slots id : ℕ) (me : M) → Allows K slots id me 0 (λ n. n) (λ n m'. Reads n me.0 m'.0 × (m'.1 ≡ me.1))
+  pub reads : (slots id : ℕ) (me : Mine) → Allows Kept slots id me 0 (λ n. n) (λ n m'. Reads n me.0 m'.0 × (m'.1 ≡ me.1))
   reads slots id me s k deep at small =
       let v : Watch = me.0 in
       let n : ℕ = get_or s.words 0 0 in
@@ -94,9 +94,9 @@ module _ (lanes from : ℕ) where
       )
 
   -- one is added below the last stamp
-  module _ (s : State (Unit {0}) Watch) (k : K s) (id : ℕ) (v : Watch) (at : get_elem? s.views id ≡ some v) (some_lane : 0 < length v.lanes) (less : v.known < last_stamp) where
+  module _ (s : State (Unit {0}) Watch) (k : Kept s) (id : ℕ) (v : Watch) (at : get_elem? s.views id ≡ some v) (some_lane : 0 < length v.lanes) (less : v.known < last_stamp) where
     draws : k.clock < last_stamp → (next : ℕ) → next ≡ k.clock + 1 → (n : ℕ) → n ≡ k.clock
-        → K record { words = set s.words 0 next; homes = s.homes; views = set s.views id (having_drawn (n + 1) v) }
+        → Kept record { words = set s.words 0 next; homes = s.homes; views = set s.views id (having_drawn (n + 1) v) }
     draws lt next is n here =
         let mine = k.fits id v at in
         let begun = k.begun in let counted = k.counted in let bounded = k.bounded in
@@ -120,7 +120,7 @@ module _ (lanes from : ℕ) where
 
     -- one is added at the last stamp or above
     passes : last_stamp ≤ k.clock → (next : ℕ) → next ≡ k.clock + 1
-        → K record { words = set s.words 0 next; homes = s.homes; views = set s.views id (record v { known = last_stamp; additions = v.additions + 1; over = v.over + 1 }) }
+        → Kept record { words = set s.words 0 next; homes = s.homes; views = set s.views id (record v { known = last_stamp; additions = v.additions + 1; over = v.over + 1 }) }
     passes ge next is =
         let mine = k.fits id v at in
         let bounded = k.bounded in
@@ -137,8 +137,8 @@ module _ (lanes from : ℕ) where
           rests = mine.rests;
         }
 
-  pub raises : (slots id : ℕ) (me : M) → 0 < length me.0.lanes → me.0.known < last_stamp
-      → Allows K slots id me 0 (λ n. (n + 1) % 2 ^ 64) (λ n m'. Raises n me.0 m'.0 × (m'.1 ≡ me.1))
+  pub raises : (slots id : ℕ) (me : Mine) → 0 < length me.0.lanes → me.0.known < last_stamp
+      → Allows Kept slots id me 0 (λ n. (n + 1) % 2 ^ 64) (λ n m'. Raises n me.0 m'.0 × (m'.1 ≡ me.1))
   raises slots id me some_lane less s k deep at small =
       let v : Watch = me.0 in
       let n : ℕ = get_or s.words 0 0 in
@@ -173,7 +173,7 @@ module _ (lanes from : ℕ) where
       laned : (x : ℕ) → times x left.lanes + times x right.lanes ≡ times x v.lanes
       over : left.over + right.over ≡ v.over
 
-    cuts : Shares → ((clock : ℕ) → Fits from clock v → Fits from clock left × Fits from clock right) → Splits K id v left right
+    cuts : Shares → ((clock : ℕ) → Fits from clock v → Fits from clock left × Fits from clock right) → Splits Kept id v left right
     cuts shares fit s k at =
         let views : List Watch = set s.views id left in
         let sum : (f : Watch → ℕ) → f left + f right ≡ f v → total f (views ++ right ∷ []) ≡ total f s.views
@@ -194,12 +194,12 @@ module _ (lanes from : ℕ) where
           fits = each_end (Fits from k.clock) views right (each_set (Fits from k.clock) s.views id left (λ j u ne e. k.fits j u e) mine.0) mine.1;
         }
 
-  pub notes : (id : ℕ) (v : Watch) → Splits K id v v (noted v)
+  pub notes : (id : ℕ) (v : Watch) → Splits Kept id v v (noted v)
   notes id v = cuts id v v (noted v)
       record { additions = omega arith; drawn = λ x. omega arith; lanes_out = omega arith; laned = λ x. omega arith; over = omega arith }
       (λ clock f. (f, record { known = f.known; within = f.within; floor = f.floor; over_lanes = omega arith; over_known = λ some_over. absurd (omega arith); no_lane = λ none. (refl, refl); rests = (refl, refl, refl) }))
 
-  newcomers_cut : (id : ℕ) (l : List ℕ) → 0 < length l → let v = newcomer from l in Splits K id v (first_lane v) (other_lanes v)
+  newcomers_cut : (id : ℕ) (l : List ℕ) → 0 < length l → let v = newcomer from l in Splits Kept id v (first_lane v) (other_lanes v)
   newcomers_cut id [] some_lane = absurd (omega arith)
   newcomers_cut id (k ∷ ks) some_lane =
       let v : Watch = newcomer from (k ∷ ks) in
@@ -211,12 +211,12 @@ module _ (lanes from : ℕ) where
       (fit (k ∷ []), fit ks))
 
   -- of lanes that have made no step the first is kept
-  pub lanes_cut : (id : ℕ) (me : M) → me ≡ (newcomer from me.0.lanes, []) → 0 < length me.0.lanes → Splits K id me.0 (first_lane me.0) (other_lanes me.0)
+  pub lanes_cut : (id : ℕ) (me : Mine) → me ≡ (newcomer from me.0.lanes, []) → 0 < length me.0.lanes → Splits Kept id me.0 (first_lane me.0) (other_lanes me.0)
   lanes_cut id me is some_lane =
-      let e : me.0 ≡ newcomer from me.0.lanes = ap (λ (z : M). z.0) is in
-      subst (λ (z : Watch). Splits K id z (first_lane z) (other_lanes z)) (sym e) (newcomers_cut id me.0.lanes some_lane)
+      let e : me.0 ≡ newcomer from me.0.lanes = ap (λ (z : Mine). z.0) is in
+      subst (λ (z : Watch). Splits Kept id z (first_lane z) (other_lanes z)) (sym e) (newcomers_cut id me.0.lanes some_lane)
 
-  pub joins : (id other : ℕ) (v w : Watch) → Joins K id v other w (joined v w) spent
+  pub joins : (id other : ℕ) (v w : Watch) → Joins Kept id v other w (joined v w) spent
   joins id other v w s k at ne at' =
       let both : Watch = joined v w in
       let a = k.fits id v at in
@@ -263,7 +263,7 @@ module _ (lanes from : ℕ) where
   alone P v p zero w e = subst P (some-injective v w e) p
   alone P v p (suc i) w e = absurd (some-ne-none w (sym e))
 
-  pub starts : lanes < 2 ^ 32 → from ≤ last_stamp → K (opening (from ∷ []) [] (newcomer from (lanes_from 1 lanes)))
+  pub starts : lanes < 2 ^ 32 → from ≤ last_stamp → Kept (opening (from ∷ []) [] (newcomer from (lanes_from 1 lanes)))
   starts few begun =
       let l = lanes_length 1 lanes in
       record {
