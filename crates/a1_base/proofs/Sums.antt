@@ -15,8 +15,11 @@ module _ {A : Type 0} (f : A → ℕ) where
       let r = sum_set xs i v w e in
       let before = sum_by-cons f x xs in let after = sum_by-cons f x (set xs i w) in omega arith
 
+  pub sum_one : (x : A) → sum_by f (x ∷ []) ≡ f x
+  sum_one x = let whole = sum_by-cons f x [] in omega arith
+
   pub sum_more : (l : List A) (v : A) → sum_by f (l ++ v ∷ []) ≡ sum_by f l + f v
-  sum_more l v = let r = sum_by-append f l (v ∷ []) in let one = sum_by-cons f v [] in omega arith
+  sum_more l v = let r = sum_by-append f l (v ∷ []) in let one = sum_one v in omega arith
 
   pub sum_has : (l : List A) (i : ℕ) (v : A) → get_elem? l i ≡ some v → f v ≤ sum_by f l
   sum_has [] i v e = absurd (some-ne-none v (sym e))

@@ -1,16 +1,17 @@
 -- The seats of all lanes at the end of the clock.
-use Rattle.std.proofs.Common.{◌≡◌, ℕ, ◌+◌, ◌≤◌, min, List, [], ◌∷◌, ◌++◌, length, length-append, All, Some, refl, sym, ap, ◌∙◌, arith}
+use Rattle.std.proofs.Common.{sum_by, ◌≡◌, ℕ, ◌+◌, ◌≤◌, min, List, [], ◌∷◌, ◌++◌, length, length-append, All, Some, refl, sym, ap, ◌∙◌, arith}
 use Rattle.std.proofs.lemmas.List.Elements.{All-nil, All-cons, All-head, All-push, All-pop}
 use mathlib.Core.Option.{some, some-injective}
 use lib.ListN.{get_elem?}
 use Rattle.atomic_table.specs.Table.{Final, Seen}
+use Rattle.a1_base.proofs.Sums.{sum_more, sum_one}
 use Rattle.snapshot_stamps.specs.declared.watch.Watch.{Watch}
 use Rattle.snapshot_stamps.specs.declared.seat.StampSeat.{StampSeat}
 use Rattle.snapshot_stamps.specs.declared.seat.Stamps.{Stamps}
 use Rattle.snapshot_stamps.specs.Watched.{last_stamp, joined, Learned}
-use Rattle.snapshot_stamps.specs.Clock.{total, times, once_between, Clock}
+use Rattle.snapshot_stamps.specs.Clock.{times, once_between, Clock}
 use Rattle.snapshot_stamps.specs.Seats.{watch, lane_count, began_at, IsSeatOf, HaveAllLanes, Ended}
-use Rattle.snapshot_stamps.proofs.Totals.{total_snoc, total_only}
+use Rattle.snapshot_stamps.proofs.Sums.{sum_only}
 use Rattle.snapshot_stamps.proofs.Counts.{times_append}
 use Rattle.snapshot_stamps.proofs.Steps.{no_length}
 
@@ -25,16 +26,16 @@ ends lanes from id v words slots clock answer final there all is =
     let stands : k.clock ≡ clock = some-injective k.clock clock (ap (λ (z : List ℕ). get_elem? z 0) (sym k.words ∙ final.2) ∙ there) in
     let mine = k.fits id v at in
     let lanes_out = k.lanes_out ∙ sym all in
-    let added : total (λ (z : Watch). z.additions) s.views ≡ v.additions
-    = total_only (λ z. z.additions) (λ z. length z.lanes) s.views id v (λ i u e none. ((k.fits i u e).no_lane (no_length u.lanes none)).0) at lanes_out in
+    let added : sum_by (λ (z : Watch). z.additions) s.views ≡ v.additions
+    = sum_only (λ z. z.additions) (λ z. length z.lanes) s.views id v (λ i u e none. ((k.fits i u e).no_lane (no_length u.lanes none)).0) at lanes_out in
     let counted = k.counted in
     let known = mine.known in
     let within = mine.within in (
       omega arith,
       omega arith,
       λ x.
-          let drew : total (λ (z : Watch). times x z.drawn) s.views ≡ times x v.drawn
-          = total_only (λ z. times x z.drawn) (λ z. length z.lanes) s.views id v (λ i u e none. ap (times x) ((k.fits i u e).no_lane (no_length u.lanes none)).1) at lanes_out in
+          let drew : sum_by (λ (z : Watch). times x z.drawn) s.views ≡ times x v.drawn
+          = sum_only (λ z. times x z.drawn) (λ z. length z.lanes) s.views id v (λ i u e none. ap (times x) ((k.fits i u e).no_lane (no_length u.lanes none)).1) at lanes_out in
           sym drew ∙ k.drawn x ∙ ap (λ (z : ℕ). once_between from z x) (omega arith),
     )
 
@@ -45,20 +46,21 @@ ends_one stamps s words slots clock answer final there all is =
     let t = ends (lane_count stamps) (began_at stamps) s.seat.id (watch s) words slots clock answer final there all is in
     let P : StampSeat → Type 0 = λ (s : StampSeat). (watch s).known ≤ answer in
     let a = t.0 in
-    (omega arith, All-cons P s [] t.1 (All-nil P), λ x. let d = t.2 x in omega arith)
+    let one = sum_one (λ s. (watch s).additions) s in
+    (omega arith, All-cons P s [] t.1 (All-nil P), λ x. let d = t.2 x in let one = sum_one (λ s. times x (watch s).drawn) s in omega arith)
 
 -- of all seats these are left, and one knows and has what the others did
 pub record Gathered (all left : List StampSeat) (v : Watch) : Type 0 where
-  pub additions : total (λ (s : StampSeat). (watch s).additions) left + v.additions ≡ total (λ (s : StampSeat). (watch s).additions) all
-  pub lanes : total (λ (s : StampSeat). length (watch s).lanes) left + length v.lanes ≡ total (λ (s : StampSeat). length (watch s).lanes) all
-  pub drawn : (x : ℕ) → total (λ (s : StampSeat). times x (watch s).drawn) left + times x v.drawn ≡ total (λ (s : StampSeat). times x (watch s).drawn) all
+  pub additions : sum_by (λ (s : StampSeat). (watch s).additions) left + v.additions ≡ sum_by (λ (s : StampSeat). (watch s).additions) all
+  pub lanes : sum_by (λ (s : StampSeat). length (watch s).lanes) left + length v.lanes ≡ sum_by (λ (s : StampSeat). length (watch s).lanes) all
+  pub drawn : (x : ℕ) → sum_by (λ (s : StampSeat). times x (watch s).drawn) left + times x v.drawn ≡ sum_by (λ (s : StampSeat). times x (watch s).drawn) all
   pub known : (n : ℕ) → v.known ≤ n → All (λ (s : StampSeat). (watch s).known ≤ n) left → All (λ (s : StampSeat). (watch s).known ≤ n) all
 
 pub gathers_one : (left : List StampSeat) (s : StampSeat) → Gathered (left ++ s ∷ []) left (watch s)
 gathers_one left s = record {
-  additions = sym (total_snoc (λ s. (watch s).additions) left s);
-  lanes = sym (total_snoc (λ s. length (watch s).lanes) left s);
-  drawn = λ x. sym (total_snoc (λ s. times x (watch s).drawn) left s);
+  additions = sym (sum_more (λ s. (watch s).additions) left s);
+  lanes = sym (sum_more (λ s. length (watch s).lanes) left s);
+  drawn = λ x. sym (sum_more (λ s. times x (watch s).drawn) left s);
   known = λ n le each. All-push (λ (s : StampSeat). (watch s).known ≤ n) left s each le;
 }
 
@@ -69,10 +71,10 @@ gathers_more all left v w s g l =
     let b : length w.lanes ≡ length (v.lanes ++ (watch s).lanes) = ap (λ (z : Watch). length z.lanes) e in
     let k = l.0 in
     record {
-      additions = let t = total_snoc (λ s. (watch s).additions) left s in let h = g.additions in omega arith;
-      lanes = let t = total_snoc (λ s. length (watch s).lanes) left s in let h = g.lanes in let c = length-append v.lanes (watch s).lanes in omega arith;
+      additions = let t = sum_more (λ s. (watch s).additions) left s in let h = g.additions in omega arith;
+      lanes = let t = sum_more (λ s. length (watch s).lanes) left s in let h = g.lanes in let c = length-append v.lanes (watch s).lanes in omega arith;
       drawn = λ x.
-          let t = total_snoc (λ s. times x (watch s).drawn) left s in
+          let t = sum_more (λ s. times x (watch s).drawn) left s in
           let h = g.drawn x in
           let d : times x w.drawn ≡ times x (v.drawn ++ (watch s).drawn) = ap (λ (z : Watch). times x z.drawn) e in
           let c = times_append x v.drawn (watch s).drawn in
@@ -83,10 +85,11 @@ gathers_more all left v w s g l =
 pub ends_all : (stamps : Stamps) (all : List StampSeat) (s : StampSeat) (answer : ℕ) → Gathered all [] (watch s) → Ended stamps (s ∷ []) answer → Ended stamps all answer
 ends_all stamps all s answer g end =
     let a = g.additions in
-    let p = end.0 in (
+    let p = end.0 in
+    let one = sum_one (λ s. (watch s).additions) s in (
       omega arith,
       g.known answer (All-head (λ (s : StampSeat). (watch s).known ≤ answer) s [] end.1) (All-nil (λ (s : StampSeat). (watch s).known ≤ answer)),
-      λ x. let d = g.drawn x in let q = end.2 x in omega arith,
+      λ x. let d = g.drawn x in let q = end.2 x in let one = sum_one (λ s. times x (watch s).drawn) s in omega arith,
     )
 
 -- a seat goes back to the others, with its lanes
@@ -94,8 +97,8 @@ pub given_back : (stamps : Stamps) (others : List StampSeat) (s t : StampSeat) �
     → HaveAllLanes stamps (others ++ t ∷ [])
 given_back stamps others s t all is lanes =
     let f : StampSeat → ℕ = λ s. length (watch s).lanes in
-    let old = total_snoc f others s in
-    let new = total_snoc f others t in
+    let old = sum_more f others s in
+    let new = sum_more f others t in
     let same : f t ≡ f s = ap (λ (l : List ℕ). length l) lanes in
     let sum = all.1 in
     let each = All-pop (IsSeatOf stamps) (others ++ s ∷ []) others (Some s) refl all.0 in

@@ -1,20 +1,24 @@
 -- How often a number stands in a list, and the lanes.
-use Rattle.std.proofs.Common.{◌≡◌, ◌≢◌, ℕ, zero, suc, ◌+◌, ◌<◌, ◌≤◌, cond, Bool, List, [], ◌∷◌, ◌++◌, length, refl, ap, ◌∙◌, sym, arith, eq-eqb, ne_eqb}
+use Rattle.std.proofs.Common.{eqb, ◌==◌, ◌≡◌, ◌≢◌, ℕ, zero, suc, ◌+◌, ◌<◌, ◌≤◌, cond, Bool, List, [], ◌∷◌, ◌++◌, length, refl, ap, ◌∙◌, sym, arith, eq-eqb, ne_eqb}
 use Rattle.std.proofs.lemmas.Bool.Decides.{nat_tests}
+use Rattle.std.proofs.lemmas.List.Sums.{sum_by-append}
+use Rattle.a1_base.proofs.Sums.{sum_one}
 use mathlib.Core.Logic.{dite}
 use native.Mathlib.Decide.{ℕ_discrete}
 use Rattle.snapshot_stamps.specs.Watched.{lanes_from}
 use Rattle.snapshot_stamps.specs.Clock.{times, once_between}
 
 pub times_append : (x : ℕ) (xs ys : List ℕ) → times x (xs ++ ys) ≡ times x xs + times x ys
-times_append x [] ys = omega arith
-times_append x (y ∷ xs) ys = let r = times_append x xs ys in omega arith
+times_append x = sum_by-append (λ y. cond (y == x) 1 0)
+
+times_one : (x y : ℕ) → times x (y ∷ []) ≡ cond (eqb y x) 1 0
+times_one x = sum_one (λ y. cond (y == x) 1 0)
 
 times_here : (x : ℕ) → times x (x ∷ []) ≡ 1
-times_here x = ap (λ (b : Bool). cond b 1 0 + 0) (eq-eqb x x refl)
+times_here x = times_one x x ∙ ap (λ (b : Bool). cond b 1 0) (eq-eqb x x refl)
 
 times_else : (x y : ℕ) → y ≢ x → times x (y ∷ []) ≡ 0
-times_else x y ne = ap (λ (b : Bool). cond b 1 0 + 0) (ne_eqb y x ne)
+times_else x y ne = times_one x y ∙ ap (λ (b : Bool). cond b 1 0) (ne_eqb y x ne)
 
 between_here : (low high : ℕ) → low ≤ high → once_between low (high + 1) (high + 1) ≡ once_between low high (high + 1) + 1
 between_here low high le = grind (arith, nat_tests)
@@ -50,6 +54,7 @@ lanes_times low (suc n) x =
     let a = between_first low (low + suc n) x (omega arith) in
     let b : once_between (low + 1) (low + suc n) x ≡ once_between (suc low) (suc low + n) x = ap (λ (z : ℕ). once_between z (low + suc n) x) (omega arith) ∙ ap (λ (z : ℕ). once_between (suc low) z x) (omega arith) in
     let c : times x ((low + 1) ∷ []) ≡ times x (suc low ∷ []) = ap (λ (z : ℕ). times x (z ∷ [])) (omega arith) in
+    let d = times_append x (suc low ∷ []) (lanes_from (suc (suc low)) n) in
     omega arith
 
 pub lanes_snoc : (first n : ℕ) → lanes_from first (suc n) ≡ lanes_from first n ++ (first + n) ∷ []

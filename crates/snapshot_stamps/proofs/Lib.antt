@@ -1,4 +1,4 @@
-pub mod Totals
+pub mod Sums
 pub mod Counts
 pub mod Steps
 pub mod Closing

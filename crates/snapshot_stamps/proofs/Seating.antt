@@ -1,12 +1,12 @@
 -- A seat for each lane, one lane after another.
-use Rattle.std.proofs.Common.{◌≡◌, ℕ, suc, ◌+◌, ◌-◌, ◌<◌, List, [], ◌∷◌, ◌++◌, length, All, map, refl, sym, ap, ◌∙◌, arith}
+use Rattle.std.proofs.Common.{sum_by, ◌≡◌, ℕ, suc, ◌+◌, ◌-◌, ◌<◌, List, [], ◌∷◌, ◌++◌, length, All, map, refl, sym, ap, ◌∙◌, arith}
 use Rattle.std.proofs.lemmas.List.{map-append}
 use Rattle.std.proofs.lemmas.List.Elements.{All-push}
+use Rattle.std.proofs.lemmas.List.Sums.{sum_by-cons}
 use Rattle.snapshot_stamps.specs.declared.watch.Watch.{Watch}
 use Rattle.snapshot_stamps.specs.declared.seat.Stamps.{Stamps}
 use Rattle.snapshot_stamps.specs.declared.seat.StampSeat.{StampSeat}
 use Rattle.snapshot_stamps.specs.Watched.{newcomer, lanes_from, first_lane, other_lanes}
-use Rattle.snapshot_stamps.specs.Clock.{total}
 use Rattle.snapshot_stamps.specs.Seats.{watch, lane_count, began_at, IsSeatOf, AreSeatsOf, HaveAllLanes}
 use Rattle.snapshot_stamps.proofs.Counts.{lanes_length, lanes_snoc}
 
@@ -38,7 +38,7 @@ pub lane_taken : (from n lanes : ℕ) (v : Watch) → v ≡ newcomer from (lanes
 lane_taken from n lanes v is less = first_of from n (lanes - n) v is (lanes - (n + 1)) (omega arith)
 
 lanes_total : (from : ℕ) (seats : List StampSeat) (numbers : List ℕ) → map watch seats ≡ map (λ k. newcomer from (k ∷ [])) numbers
-    → total (λ (s : StampSeat). length (watch s).lanes) seats ≡ length numbers
+    → sum_by (λ (s : StampSeat). length (watch s).lanes) seats ≡ length numbers
 lanes_total from [] [] is = refl
 lanes_total from [] (k ∷ ks) is = cc
 lanes_total from (s ∷ seats) [] is = cc
@@ -47,6 +47,7 @@ lanes_total from (s ∷ seats) (k ∷ ks) is =
     let others : map watch seats ≡ map (λ k. newcomer from (k ∷ [])) ks = cc in
     let one : length (watch s).lanes ≡ 1 = ap (λ (v : Watch). length v.lanes) first in
     let r = lanes_total from seats ks others in
+    let whole = sum_by-cons (λ (s : StampSeat). length (watch s).lanes) s seats in
     omega arith
 
 pub all_seated : (stamps : Stamps) (n : ℕ) (seats : List StampSeat) → Seated stamps n seats → n ≡ lane_count stamps → AreSeatsOf stamps seats × HaveAllLanes stamps seats

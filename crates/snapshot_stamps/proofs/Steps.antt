@@ -1,16 +1,17 @@
 -- Each step on the clock keeps its rule.
-use Rattle.std.proofs.Common.{◌≡◌, ℕ, zero, suc, ◌+◌, ◌%◌, ◌^◌, ◌<◌, ◌≤◌, min, List, [], ◌∷◌, ◌++◌, length, length-append, get_or, set, sym, refl, ap, ◌∙◌, subst, arith}
+use Rattle.std.proofs.Common.{sum_by, ◌≡◌, ℕ, zero, suc, ◌+◌, ◌%◌, ◌^◌, ◌<◌, ◌≤◌, min, List, [], ◌∷◌, ◌++◌, length, length-append, get_or, set, sym, refl, ap, ◌∙◌, subst, arith}
 use mathlib.Core.Option.{some, some-injective, some-ne-none}
 use mathlib.Core.Logic.{dite}
 use native.Mathlib.Decide.{dec_lt}
 use lib.ListN.{get_elem?}
 use Rattle.atomic_table.specs.Table.{State, Me, opening, keeps, Allows, Splits, Joins}
 use Rattle.atomic_table.proofs.Lists.{set_else}
+use Rattle.a1_base.proofs.Sums.{sum_set, sum_has, sum_more, sum_le}
 use Rattle.snapshot_stamps.specs.declared.watch.Watch.{Watch}
 use Rattle.snapshot_stamps.specs.Watched.{last_stamp, lanes_from, newcomer, knowing, having_drawn, noted, first_lane, other_lanes, joined, spent}
 use Rattle.snapshot_stamps.specs.Plays.{Reads, Raises}
-use Rattle.snapshot_stamps.specs.Clock.{total, times, once_between, Fits, Clock}
-use Rattle.snapshot_stamps.proofs.Totals.{total_set, total_same, total_snoc, total_has, total_le, each_set, each_end}
+use Rattle.snapshot_stamps.specs.Clock.{times, once_between, Fits, Clock}
+use Rattle.snapshot_stamps.proofs.Sums.{sum_same, each_set, each_end}
 use Rattle.snapshot_stamps.proofs.Counts.{times_append, between_next, no_between, lanes_length, lanes_times}
 
 abbrev pub Mine : Type 0
@@ -34,31 +35,31 @@ module _ (lanes from : ℕ) where
     -- the clock is far from the end of its word
     far : k.clock < last_stamp + 2 ^ 32
     far =
-        let le = total_le (λ (v : Watch). v.over) (λ (v : Watch). length v.lanes) s.views (λ i v e. (k.fits i v e).over_lanes) in
+        let le = sum_le (λ (v : Watch). v.over) (λ (v : Watch). length v.lanes) s.views (λ i v e. (k.fits i v e).over_lanes) in
         let a = k.bounded in let b = k.lanes_out in let c = k.few in omega arith
 
     most : (id : ℕ) (v : Watch) → get_elem? s.views id ≡ some v → v.additions ≤ k.clock
-    most id v at = let has = total_has (λ (z : Watch). z.additions) s.views id v at in let c = k.counted in omega arith
+    most id v at = let has = sum_has (λ (z : Watch). z.additions) s.views id v at in let c = k.counted in omega arith
 
     -- a step of the view id, by which the clock gains `more`
     module _ (id : ℕ) (v w : Watch) (more : ℕ) (at : get_elem? s.views id ≡ some v) where
       moved : (next : ℕ) → next ≡ k.clock + more → w.additions ≡ v.additions + more → w.lanes ≡ v.lanes
-          → k.clock + more + v.over ≤ last_stamp + total (λ (z : Watch). z.over) s.views + w.over
+          → k.clock + more + v.over ≤ last_stamp + sum_by (λ (z : Watch). z.over) s.views + w.over
           → ((x : ℕ) → times x w.drawn + once_between from (min k.clock last_stamp) x ≡ times x v.drawn + once_between from (min (k.clock + more) last_stamp) x)
           → Fits from (k.clock + more) w
           → Kept record { words = set s.words 0 next; homes = s.homes; views = set s.views id w }
       moved next is added laned over drew fit =
-          let added' = total_set (λ (z : Watch). z.additions) s.views id v w at in
-          let over' = total_set (λ (z : Watch). z.over) s.views id v w at in
+          let added' = sum_set (λ (z : Watch). z.additions) s.views id v w at in
+          let over' = sum_set (λ (z : Watch). z.over) s.views id v w at in
           record {
             clock = k.clock + more;
             words = ap (λ (z : List ℕ). set z 0 next) k.words ∙ ap (λ (z : ℕ). z ∷ []) is;
             counted = let c = k.counted in omega arith;
             begun = k.begun;
-            drawn = λ x. let t = total_set (λ (z : Watch). times x z.drawn) s.views id v w at in let c = k.drawn x in let d = drew x in omega arith;
+            drawn = λ x. let t = sum_set (λ (z : Watch). times x z.drawn) s.views id v w at in let c = k.drawn x in let d = drew x in omega arith;
             few = k.few;
-            lanes_out = total_same (λ (z : Watch). length z.lanes) s.views id v w at (ap (λ (z : List ℕ). length z) laned) ∙ k.lanes_out;
-            laned = λ x. total_same (λ (z : Watch). times x z.lanes) s.views id v w at (ap (λ (z : List ℕ). times x z) laned) ∙ k.laned x;
+            lanes_out = sum_same (λ (z : Watch). length z.lanes) s.views id v w at (ap (λ (z : List ℕ). length z) laned) ∙ k.lanes_out;
+            laned = λ x. sum_same (λ (z : Watch). times x z.lanes) s.views id v w at (ap (λ (z : List ℕ). times x z) laned) ∙ k.laned x;
             bounded = omega arith;
             fits = each_set (Fits from (k.clock + more)) s.views id w
                 (λ j u ne e. let o = k.fits j u e in record { known = (let r = o.known in omega arith); within = o.within; floor = o.floor; over_lanes = o.over_lanes; over_known = o.over_known; no_lane = o.no_lane; rests = o.rests })
@@ -176,8 +177,8 @@ module _ (lanes from : ℕ) where
     cuts : Shares → ((clock : ℕ) → Fits from clock v → Fits from clock left × Fits from clock right) → Splits Kept id v left right
     cuts shares fit s k at =
         let views : List Watch = set s.views id left in
-        let sum : (f : Watch → ℕ) → f left + f right ≡ f v → total f (views ++ right ∷ []) ≡ total f s.views
-        = λ f e. let a = total_set f s.views id v left at in let b = total_snoc f views right in omega arith in
+        let sum : (f : Watch → ℕ) → f left + f right ≡ f v → sum_by f (views ++ right ∷ []) ≡ sum_by f s.views
+        = λ f e. let a = sum_set f s.views id v left at in let b = sum_more f views right in omega arith in
         let mine = fit k.clock (k.fits id v at) in
         let a = sum (λ z. z.additions) shares.additions in
         let o = sum (λ z. z.over) shares.over in
@@ -204,7 +205,7 @@ module _ (lanes from : ℕ) where
   newcomers_cut id (k ∷ ks) some_lane =
       let v : Watch = newcomer from (k ∷ ks) in
       cuts id v (first_lane v) (other_lanes v)
-      record { additions = refl; drawn = λ x. refl; lanes_out = omega arith; laned = λ x. omega arith; over = refl }
+      record { additions = refl; drawn = λ x. refl; lanes_out = omega arith; laned = λ x. sym (times_append x (k ∷ []) ks); over = refl }
       (λ clock f.
       let fit : (l : List ℕ) → Fits from clock (newcomer from l)
       = λ l. record { known = f.known; within = f.within; floor = f.floor; over_lanes = omega arith; over_known = λ some_over. absurd (omega arith); no_lane = λ none. (refl, refl); rests = (refl, refl, refl) } in
@@ -223,8 +224,8 @@ module _ (lanes from : ℕ) where
       let there : get_elem? s.views other ≡ some w = sym (set_else s.views id other both ne) ∙ at' in
       let b = k.fits other w there in
       let views : List Watch = set s.views id both in
-      let sum : (f : Watch → ℕ) → f both ≡ f v + f w → f spent ≡ 0 → total f (set views other spent) ≡ total f s.views
-      = λ f e n. let x = total_set f s.views id v both at in let y = total_set f views other w spent at' in omega arith in
+      let sum : (f : Watch → ℕ) → f both ≡ f v + f w → f spent ≡ 0 → sum_by f (set views other spent) ≡ sum_by f s.views
+      = λ f e n. let x = sum_set f s.views id v both at in let y = sum_set f views other w spent at' in omega arith in
       let p = sum (λ z. z.additions) refl refl in
       let o = sum (λ z. z.over) refl refl in
       let l : length (v.lanes ++ w.lanes) ≡ length v.lanes + length w.lanes = length-append v.lanes w.lanes in

@@ -1,5 +1,5 @@
 -- The rule of the clock: one word, and what its seats know.
-use Rattle.std.specs.Prelude.{◌≡◌, ℕ, ◌+◌, ◌^◌, ◌<◌, ◌≤◌, ◌==◌, min, cond, nat_lt, List, [], ◌∷◌, length, None}
+use Rattle.std.specs.Prelude.{◌≡◌, ℕ, ◌+◌, ◌^◌, ◌<◌, ◌≤◌, ◌==◌, min, cond, nat_lt, List, [], ◌∷◌, length, None, sum_by, count_by}
 use mathlib.Core.Option.{some}
 use lib.ListN.{get_elem?}
 use Rattle.atomic_table.specs.Table.{State}
@@ -7,14 +7,9 @@ use Rattle.snapshot_stamps.specs.declared.watch.Watch.{Watch}
 use Rattle.snapshot_stamps.specs.declared.watch.Mark.TheVariants.{Empty}
 use Rattle.snapshot_stamps.specs.Watched.{last_stamp}
 
-abbrev pub total : {A : Type 0} → (A → ℕ) → List A → ℕ
-total f [] = 0
-total f (x ∷ xs) = f x + total f xs
-
 -- how often x stands in the list
 abbrev pub times : ℕ → List ℕ → ℕ
-times x [] = 0
-times x (y ∷ ys) = cond (y == x) 1 0 + times x ys
+times x xs = count_by (λ y. y == x) xs
 
 -- 1 for each number above the first and at most the second
 abbrev pub once_between : ℕ → ℕ → ℕ → ℕ
@@ -38,11 +33,11 @@ pub record Fits (from clock : ℕ) (v : Watch) : Type 0 where
 pub record Clock (lanes from : ℕ) (s : State (Unit {0}) Watch) : Type 0 where
   pub clock : ℕ
   pub words : s.words ≡ clock ∷ []
-  pub counted : from + total (λ (v : Watch). v.additions) s.views ≡ clock
+  pub counted : from + sum_by (λ (v : Watch). v.additions) s.views ≡ clock
   pub begun : from ≤ last_stamp
-  pub drawn : (x : ℕ) → total (λ (v : Watch). times x v.drawn) s.views ≡ once_between from (min clock last_stamp) x
+  pub drawn : (x : ℕ) → sum_by (λ (v : Watch). times x v.drawn) s.views ≡ once_between from (min clock last_stamp) x
   pub few : lanes < 2 ^ 32
-  pub lanes_out : total (λ (v : Watch). length v.lanes) s.views ≡ lanes
-  pub laned : (x : ℕ) → total (λ (v : Watch). times x v.lanes) s.views ≡ once_between 0 lanes x
-  pub bounded : clock ≤ last_stamp + total (λ (v : Watch). v.over) s.views
+  pub lanes_out : sum_by (λ (v : Watch). length v.lanes) s.views ≡ lanes
+  pub laned : (x : ℕ) → sum_by (λ (v : Watch). times x v.lanes) s.views ≡ once_between 0 lanes x
+  pub bounded : clock ≤ last_stamp + sum_by (λ (v : Watch). v.over) s.views
   pub fits : (i : ℕ) (v : Watch) → get_elem? s.views i ≡ some v → Fits from clock v

@@ -1,11 +1,11 @@
 -- Seats and notes, as clauses name them.
-use Rattle.std.specs.Prelude.{◌≡◌, ℕ, ◌+◌, ◌≤◌, min, List, [], ◌∷◌, length, All, map}
+use Rattle.std.specs.Prelude.{◌≡◌, ℕ, ◌+◌, ◌≤◌, min, List, [], ◌∷◌, length, All, map, sum_by}
 use Rattle.snapshot_stamps.specs.declared.watch.Watch.{Watch}
 use Rattle.snapshot_stamps.specs.declared.seat.Stamps.{Stamps}
 use Rattle.snapshot_stamps.specs.declared.seat.StampSeat.{StampSeat}
 use Rattle.snapshot_stamps.specs.declared.seat.Note.{Note}
 use Rattle.snapshot_stamps.specs.Watched.{last_stamp, newcomer, lanes_from}
-use Rattle.snapshot_stamps.specs.Clock.{total, times, once_between}
+use Rattle.snapshot_stamps.specs.Clock.{times, once_between}
 
 -- how many lanes the clock has, and where it began
 abbrev pub lane_count : Stamps → ℕ
@@ -33,12 +33,12 @@ AreSeatsOf stamps seats = All (IsSeatOf stamps) seats × (map watch seats ≡ ma
 
 -- all lanes are in the hands of these seats
 abbrev pub HaveAllLanes : Stamps → List StampSeat → Type 0
-HaveAllLanes stamps seats = All (IsSeatOf stamps) seats × (total (λ (s : StampSeat). length (watch s).lanes) seats ≡ lane_count stamps)
+HaveAllLanes stamps seats = All (IsSeatOf stamps) seats × (sum_by (λ (s : StampSeat). length (watch s).lanes) seats ≡ lane_count stamps)
 
 -- The answer at the end: where the clock began plus all additions of these seats, at most the last stamp. It is at least what each
 -- knew, and each stamp above the beginning and at most the answer was drawn by one of these seats, once, and no other stamp was
 abbrev pub Ended : Stamps → List StampSeat → ℕ → Type 0
 Ended stamps seats answer =
-    (answer ≡ min (began_at stamps + total (λ (s : StampSeat). (watch s).additions) seats) last_stamp)
+    (answer ≡ min (began_at stamps + sum_by (λ (s : StampSeat). (watch s).additions) seats) last_stamp)
     × All (λ (s : StampSeat). (watch s).known ≤ answer) seats
-    × ((x : ℕ) → total (λ (s : StampSeat). times x (watch s).drawn) seats ≡ once_between (began_at stamps) answer x)
+    × ((x : ℕ) → sum_by (λ (s : StampSeat). times x (watch s).drawn) seats ≡ once_between (began_at stamps) answer x)

@@ -34,7 +34,7 @@ pub struct Watch {
     pub lanes: [u64; 0],
     /// How many of the additions were made where the clock stood at the last stamp or above.
     pub over: u64,
-    /// What stands in its lane.
+    /// What stands in its lane. This and what follows are at rest so far: no call pins or looks over the lanes yet.
     pub mark: Mark,
     /// A stamp that was loaded for a pin, and is not stored yet.
     pub loaded: Option<u64>,

@@ -1,8 +1,9 @@
-use Rattle.std.proofs.Common.{List, ◌≡◌, [], ◌∷◌, ◌++◌, Some, sym, subst}
+use Rattle.std.proofs.Common.{rules, length, List, ◌≡◌, [], ◌∷◌, ◌++◌, Some, sym, subst}
+use Rattle.std.proofs.lemmas.List.{nil_from_length}
 use Rattle.std.proofs.lemmas.List.Elements.{All-pop}
 use Rattle.snapshot_stamps.specs.declared.seat.StampSeat.{StampSeat}
 use Rattle.snapshot_stamps.specs.Seats.{watch, IsSeatOf}
-use Rattle.snapshot_stamps.proofs.Closing.{Gathered, gathers_one, gathers_more}
+use Rattle.snapshot_stamps.proofs.Closing.{Gathered, gathers_one, gathers_more, ends_all}
 use Rattle.snapshot_stamps.proofs.seat.Stamps.close.Goals as goal
 
 pub loop-seat-init : goal.loop-seat-init
@@ -27,3 +28,10 @@ loop-seat-preserved c =
           (subst (λ (z : List StampSeat). Gathered c.args.seats.items z (watch c.loop-seat.whole)) e c.loop-seat.invariant.2)
           c.unite-whole.ensures.learned,
     )
+
+pub returns : goal.returns
+returns c =
+    let none : length c.loop-seat.seats.items ≡ 0 = search rules in
+    ends_all c.args.self c.args.seats.items c.loop-seat.whole c.close_with.result
+    (subst (λ (z : List StampSeat). Gathered c.args.seats.items z (watch c.loop-seat.whole)) (nil_from_length _ none) c.loop-seat.invariant.2)
+    c.close_with.ensures
