@@ -1,3 +1,4 @@
 pub mod StreamLemmas
+pub mod RunningLemmas
 pub mod StepsLemmas
 pub mod TopLemmas

@@ -1,14 +1,10 @@
--- Scripts, sessions and endings of the top call.
-use Rattle.std.proofs.Common.{◌≡◌, ◌⊎◌, inl, inr, ◌∙◌, ℕ, ◌<◌, List, [], ◌∷◌, length, Option, Some, IsOk, Result, Ok, Err, Bool, true, false, refl, sym, ap, subst, arith, String, codes}
-use Rattle.std.specs.Prelude.{nat_lt, IfSome, string_bytes, ◌||◌}
+-- Words and endings of the top call.
+use Rattle.std.proofs.Common.{◌≡◌, ◌⊎◌, inl, inr, ◌∙◌, ℕ, List, [], ◌∷◌, Option, Some, IsOk, Result, Ok, Err, Bool, true, false, refl, sym, ap, subst, String, codes}
+use Rattle.std.specs.Prelude.{IfSome, string_bytes, ◌||◌}
 use Rattle.std.specs.Str.{bytes_eq}
 use Rattle.std.proofs.lemmas.Slice.Eq.{bytes_eq-Decides}
-use Rattle.std.specs.List.{IsDistinct}
-use Rattle.std.proofs.lemmas.Bool.Decides.{nat_tests}
 use Rattle.std.specs.declared.alloc.Global.{Global}
-use Rattle.request_reader.specs.Graph.{Graph}
-use Rattle.answer_text.specs.Legal.{IsLegal}
-use Rattle.run_text.specs.Script.{script_of, script_limit, asked_in, IsOf}
+use Rattle.run_text.specs.Script.{script_of, asked_in, IsOf}
 use Rattle.run_text.specs.Run.{empty_run}
 use Rattle.run_text.specs.declared.run.Run.{Run}
 use Rattle.a1_base.specs.Outside.{Rose}
@@ -16,14 +12,10 @@ use Rattle.farm_core.specs.declared.event.Event.{Event}
 use Rattle.steps_text.specs.EventText.{IsTextOf, IsFaultOf}
 use Rattle.steps_text.specs.declared.fault.TextFault.TheVariants.{Line}
 use Rattle.a1.specs.Outcome.{is_word, is_run, is_steps, is_command, steps_nodes, status_of, Outside, Ends, IsBadAt, IsBadStep, IsLegalRun}
+use Rattle.a1.proofs.RunningLemmas.{none_legal}
 use Rattle.a1.proofs.StepsLemmas.{text_not_broken}
 use Rattle.a1.specs.declared.outcome.Ending.{Ending}
 use Rattle.a1.specs.declared.outcome.Ending.TheVariants.{Done, Usage, Unread, UsageUnwritten, LineUnwritten, TextUnwritten, OutOfMemory, Malformed, Stepped, StepsUnwritten, StepsMalformed, StepsLineUnwritten}
-
--- a script that is too long breaks the grammar as a whole
-pub long_script : (bytes : List ℕ) → script_limit < length bytes → script_of bytes ≡ Err 0
-unfolding script_of
-long_script bytes h = let e : nat_lt script_limit (length bytes) ≡ true = grind (arith, nat_tests) in rw e
 
 -- ---- words
 
@@ -51,17 +43,6 @@ steps_is_command : (words : List (String Global)) → is_steps words ≡ true �
 steps_is_command words steps other = let no : true ≡ false = sym (or_true (is_run words)) ∙ sym (ap (λ b. is_run words || b) steps) ∙ other in absurd cc
 
 -- ---- endings
-
--- no session is a legal history
-pub none_legal : (graph : Graph) (base : ℕ) → IsLegal graph base [] []
-unfolding IsDistinct
-none_legal graph base = record {
-  stamps_differ = tt;
-  stamps_above = tt;
-  stamps_apart = tt;
-  told_first = λ i j line h. absurd (omega (arith, h.1.0.1));
-  answered = tt;
-}
 
 empty_legal : (run : Run) → run ≡ empty_run → IsLegalRun run
 empty_legal run e = subst IsLegalRun (sym e) (none_legal _ _)

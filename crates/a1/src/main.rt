@@ -8,8 +8,8 @@
 mod edge;
 mod input;
 mod outcome;
+mod running;
 mod steps;
-mod store;
 mod streams;
 #[cfg(test)]
 mod tests;
@@ -17,12 +17,12 @@ mod top;
 
 use a1_base::NoGate;
 use edge::{StdinSource, StdoutSink};
+use object_store::MemStore;
 use outcome::OUT_OF_MEMORY;
 use std::io::ErrorKind;
 use std::process::ExitCode;
 use std::rt::Env;
 use std::{env, io};
-use store::MemStore;
 use top::a1;
 
 // The words behind the program's name.

@@ -1,60 +1,99 @@
 //! The worked examples, over a source, a sink and a store in memory.
+mod ample;
+mod runs;
 mod slow;
 mod steps;
 
 use crate::outcome::Outcome;
-use crate::store::{MemStore, Store, StoreMiss};
-use crate::streams::{Input, read_all};
 use crate::top::a1;
-use a1_base::{Bin, MemSink, MemSource, NoGate, Sink, Txt};
-use answer_text::Reply;
-use graph_plain::Plain;
-use request_reader::{BadWord, Refusal, Request, Word};
-use slow::{SlowSink, SlowSource};
+use a1_base::{Bin, MemSink, MemSource, NoGate, Sink, Source};
+use object_store::MemStore;
 use std::alloc::{AllocError, Global};
+use std::process::Abort;
 use std::sync::Wait;
 use std::test::Fail;
 
 const PUT_ANN: &str =
     "1 {\"do\":[{\"put\":{\"graph\":\"sys/names\",\"type\":\"name\",\"v\":{\"id\":\"ann\"}}}]}\n";
 
-const PUT_REQUEST: &str =
-    "{\"do\":[{\"put\":{\"graph\":\"sys/names\",\"type\":\"name\",\"v\":{\"id\":\"ann\"}}}]}";
-
 const PUT_BOB: &str =
     "1 {\"do\":[{\"put\":{\"graph\":\"sys/names\",\"type\":\"name\",\"v\":{\"id\":\"bob\"}}}]}\n";
 
 const ASK_ANN: &str = "1 {\"ask\":{\"_type\":\"name\",\"id\":\"ann\"},\"graph\":\"sys/names\"}\n";
 
-// A call of the program: its words, the pieces of its script, and which read and which write fail, 0 for none.
+// A call of the program, and what it must answer. It has the pieces of the script, and which read and which write fail, 0
+// for none.
 #[derive(Clone, Copy)]
-struct Call<'a> {
+struct Case<'a> {
     words: &'a [&'a str],
     script: &'a [&'a str],
     failing_read: u64,
     failing_write: u64,
-}
-
-// A call and what it must answer.
-#[derive(Clone, Copy)]
-struct Case<'a> {
-    call: Call<'a>,
     status: u8,
     text: &'a str,
 }
 
-fn running<'a>(script: &'a [&'a str], status: u8, text: &'a str) -> Case<'a> {
+// The pieces of a script, and the text that is written for it.
+type Scripts<'a> = &'a [(&'a [&'a str], &'a str)];
+
+const SERVED: Scripts = &[
+    (&[], ""),
+    (
+        &[PUT_ANN, ASK_ANN],
+        "1 {\"ok\":2}\n1 {\"at\":2,\"rows\":[{\"id\":\"ann\"}]}\n",
+    ),
+    (
+        &[PUT_ANN, ASK_ANN, PUT_ANN, PUT_BOB],
+        "1 {\"ok\":2}\n1 {\"at\":2,\"rows\":[{\"id\":\"ann\"}]}\n1 {\"at\":2,\"refused\":\"key_taken\"}\n1 {\"ok\":3}\n",
+    ),
+    (&[ASK_ANN], "1 {\"at\":1,\"rows\":[]}\n"),
+    (&["1 hello\n"], "1 {\"bad\":\"not_built\"}\n"),
+    (
+        &["\n1 \n\n1 {}"],
+        "1 {\"bad\":\"not_built\"}\n1 {\"bad\":\"not_built\"}\n",
+    ),
+];
+
+const MALFORMED: Scripts = &[
+    (&["2 {}\n"], "script 1\n"),
+    (&["33 {}\n"], "script 1\n"),
+    (&["\n", PUT_ANN, "\n1\n"], "script 4\n"),
+    (&["01 {}\n"], "script 1\n"),
+    (&["\r\n"], "script 1\n"),
+];
+
+const UNREAD: Case = Case {
+    words: &["run"],
+    script: &[PUT_ANN],
+    failing_read: 2,
+    failing_write: 0,
+    status: 3,
+    text: "",
+};
+
+const UNWRITTEN: Case = Case {
+    failing_read: 0,
+    failing_write: 1,
+    status: 4,
+    ..UNREAD
+};
+
+const FAILING: &[Case] = &[
+    UNREAD,
+    UNWRITTEN,
     Case {
-        call: Call {
-            words: &["run"],
-            script,
-            failing_read: 0,
-            failing_write: 0,
-        },
-        status,
-        text,
-    }
-}
+        words: &[],
+        script: &[],
+        ..UNWRITTEN
+    },
+    Case {
+        words: &["run", "x"],
+        failing_write: 0,
+        status: 2,
+        text: "usage\n",
+        ..UNWRITTEN
+    },
+];
 
 fn strings(alloc: Global, words: &[&str]) -> Result<Vec<String>, AllocError> {
     let mut strings = Vec::new(alloc);
@@ -80,307 +119,125 @@ fn numbers(alloc: Global, number: u64) -> Result<Vec<u64>, AllocError> {
     }
 }
 
-// What the call answers, and what it writes.
+// What the program answers to these words over this outside.
+fn called<T: Wait, R: Source, W: Sink>(
+    rt: &T,
+    alloc: Global,
+    words: &[&str],
+    source: &mut R,
+    sink: &mut W,
+    store: &mut MemStore,
+) -> Result<Outcome, AllocError> {
+    let words = strings(alloc, words)?;
+    Ok(a1(rt, alloc, &words, source, sink, store, &NoGate))
+}
+
+// The same over a store that holds nothing.
+fn called_alone<T: Wait, R: Source, W: Sink>(
+    rt: &T,
+    alloc: Global,
+    words: &[&str],
+    source: &mut R,
+    sink: &mut W,
+) -> Result<Outcome, AllocError> {
+    let mut store = MemStore::new(Vec::new(alloc), Vec::new(alloc));
+    called(rt, alloc, words, source, sink, &mut store)
+}
+
+// What the case's call answers, and what it writes.
 fn outcome_of<T: Wait>(
     rt: &T,
     alloc: Global,
-    call: &Call,
+    case: &Case,
 ) -> Result<(Outcome, Vec<u8>), AllocError> {
-    let words = strings(alloc, call.words)?;
-    let script = joined(alloc, call.script)?;
-    let mut source = MemSource::new(script, numbers(alloc, call.failing_read)?);
-    let mut sink = MemSink::new(alloc, numbers(alloc, call.failing_write)?);
-    let mut store = MemStore::new(Vec::new(alloc), Vec::new(alloc));
-    let outcome = a1(
-        rt,
-        alloc,
-        &words,
-        &mut source,
-        &mut sink,
-        &mut store,
-        &NoGate,
-    );
+    let script = joined(alloc, case.script)?;
+    let mut source = MemSource::new(script, numbers(alloc, case.failing_read)?);
+    let mut sink = MemSink::new(alloc, numbers(alloc, case.failing_write)?);
+    let outcome = called_alone(rt, alloc, case.words, &mut source, &mut sink)?;
     Ok((outcome, sink.bytes().to_vec(alloc)?))
+}
+
+fn assert_outcome(rt: &impl Abort, status: u8, text: &[u8], case: &Case) {
+    assert_eq!(rt; status, case.status, "{:?}", case.script);
+    assert!(rt; text == case.text.as_bytes(), "{:?}", case.script);
+}
+
+fn assert_case<T: Wait + Abort>(rt: &T, alloc: Global, case: &Case) -> Result<(), AllocError> {
+    let (outcome, text) = outcome_of(rt, alloc, case)?;
+    assert_outcome(rt, outcome.status, text.as_slice(), case);
+    Ok(())
+}
+
+// Each script has this status and its text, where nothing outside fails.
+fn assert_scripts<'a, T: Wait + Abort>(
+    rt: &T,
+    alloc: Global,
+    words: &'a [&'a str],
+    status: u8,
+    scripts: Scripts<'a>,
+) -> Result<(), AllocError> {
+    for (script, text) in scripts {
+        let case = Case {
+            words,
+            script,
+            failing_read: 0,
+            failing_write: 0,
+            status,
+            text,
+        };
+        assert_case(rt, alloc, &case)?;
+    }
+    Ok(())
 }
 
 #[test]
 fn worked_examples(rt: HostRuntime) -> Result<(), Fail> {
-    let cases = [
-        running(&[], 0, ""),
-        running(
-            &[PUT_ANN, ASK_ANN],
-            0,
-            "1 {\"ok\":2}\n1 {\"at\":2,\"rows\":[{\"id\":\"ann\"}]}\n",
-        ),
-        running(
-            &[PUT_ANN, ASK_ANN, PUT_ANN, PUT_BOB],
-            0,
-            "1 {\"ok\":2}\n1 {\"at\":2,\"rows\":[{\"id\":\"ann\"}]}\n1 {\"at\":2,\"refused\":\"key_taken\"}\n1 {\"ok\":3}\n",
-        ),
-        running(&[ASK_ANN], 0, "1 {\"at\":1,\"rows\":[]}\n"),
-        running(&["1 hello\n"], 0, "1 {\"bad\":\"not_built\"}\n"),
-        running(
-            &["\n1 \n\n1 {}"],
-            0,
-            "1 {\"bad\":\"not_built\"}\n1 {\"bad\":\"not_built\"}\n",
-        ),
-    ];
-    for case in &cases {
-        let (outcome, text) = outcome_of(&rt, rt.alloc(), &case.call)?;
-        assert_eq!(rt; outcome.status, case.status, "{:?}", case.text);
-        assert!(rt; text.as_slice() == case.text.as_bytes(), "{:?}", case.text);
-    }
+    assert_scripts(&rt, rt.alloc(), &["run"], 0, SERVED)?;
     Ok(())
 }
 
 #[test]
-fn bad_input(rt: HostRuntime) -> Result<(), Fail> {
-    let cases = [
-        running(&["2 {}\n"], 8, "script 1\n"),
-        running(&["33 {}\n"], 8, "script 1\n"),
-        running(&["\n", PUT_ANN, "\n1\n"], 8, "script 4\n"),
-        running(&["01 {}\n"], 8, "script 1\n"),
-        running(&["\r\n"], 8, "script 1\n"),
-        Case {
-            call: Call {
-                words: &["run", "x"],
-                script: &[PUT_ANN],
-                failing_read: 0,
-                failing_write: 0,
-            },
-            status: 2,
-            text: "usage\n",
-        },
-        Case {
-            call: Call {
-                words: &[],
-                script: &[],
-                failing_read: 0,
-                failing_write: 1,
-            },
-            status: 4,
-            text: "",
-        },
-        Case {
-            call: Call {
-                words: &["run"],
-                script: &[PUT_ANN],
-                failing_read: 2,
-                failing_write: 0,
-            },
-            status: 3,
-            text: "",
-        },
-        Case {
-            call: Call {
-                words: &["run"],
-                script: &[PUT_ANN],
-                failing_read: 0,
-                failing_write: 1,
-            },
-            status: 4,
-            text: "",
-        },
-    ];
-    for case in &cases {
-        let (outcome, text) = outcome_of(&rt, rt.alloc(), &case.call)?;
-        assert_eq!(rt; outcome.status, case.status, "{:?}", case.text);
-        assert!(rt; text.as_slice() == case.text.as_bytes(), "{:?}", case.text);
-    }
+fn scripts_out_of_form(rt: HostRuntime) -> Result<(), Fail> {
+    assert_scripts(&rt, rt.alloc(), &["run"], 8, MALFORMED)?;
     Ok(())
 }
 
 #[test]
-fn a_run_has_its_sessions(rt: HostRuntime) -> Result<(), Fail> {
-    let script: [&str; 5] = ["1 ", PUT_REQUEST, "\n1 ", PUT_REQUEST, "\n1 hello"];
-    let (outcome, _) = outcome_of(&rt, rt.alloc(), &running(&script, 0, "").call)?;
-    let run = &outcome.run;
-    assert_eq!(rt; run.base, 1);
-    assert_eq!(rt; run.sessions.len(), 1);
-    let transcript = run.sessions.get(0).ok_or("a session")?;
-    assert_eq!(rt; transcript.session, 1);
-    let lines = transcript.lines.as_slice();
-    assert_eq!(rt; lines.len(), 3);
-    assert_eq!(rt; lines[0].request.as_slice(), PUT_REQUEST.as_bytes());
-    assert!(rt; matches!(lines[0].reply, Reply::Ok { stamp: 2 }));
-    assert_eq!(rt; lines[1].request.as_slice(), PUT_REQUEST.as_bytes());
-    let taken = Refusal {
-        word: Word::KeyTaken,
-    };
-    assert!(rt; matches!(lines[1].reply, Reply::Refused { at: 2, refusal } if refusal == taken));
-    assert_eq!(rt; lines[2].request.as_slice(), b"hello".as_slice());
-    assert!(rt; matches!(lines[2].reply, Reply::Bad { word } if word == BadWord::NotBuilt));
-
-    assert!(rt; run.background.is_empty());
-    assert_eq!(rt; (run.clock, run.own), (0, 0));
-    assert_eq!(rt; (run.objects, run.versions), (0, 0));
-    assert_eq!(rt; run.pending, 0);
-    assert!(rt; run.regions.is_empty());
+fn calls_that_fail(rt: HostRuntime) -> Result<(), Fail> {
+    for case in FAILING {
+        assert_case(&rt, rt.alloc(), case)?;
+    }
     Ok(())
+}
+
+// A store that holds one item, and whose first call fails.
+fn store_of_one(alloc: Global) -> Result<MemStore, AllocError> {
+    let mut items = Vec::new(alloc);
+    items.push(Bin::from_slice(alloc, b"C")?)?;
+    Ok(MemStore::new(items, numbers(alloc, 1)?))
+}
+
+// It holds just that item.
+fn is_store_of_one(store: &MemStore) -> bool {
+    match store.items() {
+        [item] => item.as_slice() == b"C".as_slice(),
+        _ => false,
+    }
+}
+
+// The status of a put over this store.
+fn put_over<T: Wait>(rt: &T, alloc: Global, store: &mut MemStore) -> Result<u8, AllocError> {
+    let mut source = MemSource::new(joined(alloc, &[PUT_ANN])?, Vec::new(alloc));
+    let mut sink = MemSink::new(alloc, Vec::new(alloc));
+    let outcome = called(rt, alloc, &["run"], &mut source, &mut sink, store)?;
+    Ok(outcome.status)
 }
 
 #[test]
 fn the_store_is_not_touched(rt: HostRuntime) -> Result<(), Fail> {
-    let alloc = rt.alloc();
-    let words = strings(alloc, &["run"])?;
-    let mut source = MemSource::new(joined(alloc, &[PUT_ANN])?, Vec::new(alloc));
-    let mut sink = MemSink::new(alloc, Vec::new(alloc));
-    let mut items = Vec::new(alloc);
-    items.push(Bin::from_slice(alloc, b"C")?)?;
-    let mut store = MemStore::new(items, numbers(alloc, 1)?);
-    let outcome = a1(
-        &rt,
-        alloc,
-        &words,
-        &mut source,
-        &mut sink,
-        &mut store,
-        &NoGate,
-    );
-    assert_eq!(rt; outcome.status, 0);
-    assert_eq!(rt; store.items().len(), 1);
-    let item = store.items().first().ok_or("an item")?;
-    assert!(rt; item.as_slice() == b"C".as_slice());
-    Ok(())
-}
-
-// A run that goes byte by byte: which read fails, which write fails, which write takes nothing, and what it answers.
-#[derive(Clone, Copy)]
-struct ByteCase<'a> {
-    failing_read: u64,
-    failing_write: u64,
-    idle_write: u64,
-    status: u8,
-    text: &'a str,
-}
-
-#[test]
-fn byte_by_byte(rt: HostRuntime) -> Result<(), Fail> {
-    let alloc = rt.alloc();
-    let whole = "1 {\"ok\":2}\n";
-    let slow = ByteCase {
-        failing_read: 0,
-        failing_write: 0,
-        idle_write: 0,
-        status: 0,
-        text: whole,
-    };
-    let cases = [
-        slow,
-        ByteCase {
-            failing_read: 9,
-            status: 3,
-            text: "",
-            ..slow
-        },
-        ByteCase {
-            failing_write: 4,
-            status: 4,
-            text: "1 {",
-            ..slow
-        },
-        ByteCase {
-            idle_write: 1,
-            status: 4,
-            text: "",
-            ..slow
-        },
-        ByteCase {
-            idle_write: 6,
-            status: 4,
-            text: "1 {\"o",
-            ..slow
-        },
-    ];
-    for case in &cases {
-        let words = strings(alloc, &["run"])?;
-        let mut source = SlowSource {
-            bytes: Vec::from_slice(alloc, PUT_ANN.as_bytes())?,
-            at: 0,
-            calls: 0,
-            failing: case.failing_read,
-            faults: 0,
-        };
-        let mut sink = SlowSink {
-            taken: Vec::new(alloc),
-            calls: 0,
-            failing: case.failing_write,
-            idle: case.idle_write,
-            faults: 0,
-        };
-        let mut store = MemStore::new(Vec::new(alloc), Vec::new(alloc));
-        let outcome = a1(
-            &rt,
-            alloc,
-            &words,
-            &mut source,
-            &mut sink,
-            &mut store,
-            &NoGate,
-        );
-        assert_eq!(rt; outcome.status, case.status, "{:?}", case.text);
-        assert!(rt;
-            sink.taken.as_slice() == case.text.as_bytes(),
-            "{:?}",
-            case.text
-        );
-    }
-    Ok(())
-}
-
-fn whole(input: Input) -> Option<Bin> {
-    match input {
-        Input::Whole(bytes) => Some(bytes),
-        Input::TooLong => None,
-    }
-}
-
-fn asks_for(request: &Request, name: &str) -> bool {
-    match request {
-        Request::Ask(asked) => asked.as_text() == name,
-        Request::Put(_) => false,
-    }
-}
-
-#[test]
-fn with_ample_memory(rt: HostRuntime) -> Result<(), Fail> {
-    let alloc = rt.alloc();
-    let mut bytes = Bin::from_slice(alloc, b"ab")?;
-    assert_eq!(rt; bytes.as_slice(), b"ab".as_slice());
-    bytes.append(b"c")?;
-    assert_eq!(rt; bytes.as_slice(), b"abc".as_slice());
-    let mut source = MemSource::new(bytes, Vec::new(alloc));
-    let input = whole(read_all(alloc, &mut source)?).ok_or("the whole input")?;
-    assert_eq!(rt; input.as_slice(), b"abc".as_slice());
-    let mut sink = MemSink::new(alloc, Vec::new(alloc));
-    assert_eq!(rt; sink.write(b"ab"), Ok(2));
-    assert_eq!(rt; sink.bytes(), b"ab".as_slice());
-
-    let name = Txt::from_text(alloc, "ann")?;
-    assert_eq!(rt; name.as_text(), "ann");
-    let mut plain = Plain::opening(alloc)?;
-    assert!(rt; !plain.has_name(&name));
-    assert_eq!(rt; plain.put_name(alloc, &name), Ok(true));
-    assert_eq!(rt; plain.put_name(alloc, &name), Ok(false));
-    assert!(rt; plain.has_name(&name));
-
-    let (_, line) = ASK_ANN.as_bytes().split_at(2);
-    let request = request_reader::read(alloc, line)?;
-    assert!(rt; asks_for(&request, "ann"));
-    Ok(())
-}
-
-#[test]
-fn a_store_in_memory(rt: HostRuntime) -> Result<(), Fail> {
-    let alloc = rt.alloc();
-    let mut store = MemStore::new(Vec::new(alloc), numbers(alloc, 2)?);
-    assert_eq!(rt; store.put(b"C"), Ok(()));
-    assert_eq!(rt; store.put(b"D"), Err(StoreMiss::Failed));
-    let first = store.get(0)?.ok_or("an item")?;
-    assert_eq!(rt; first.as_slice(), b"C".as_slice());
-    assert!(rt; store.get(1)?.is_none());
-    assert_eq!(rt; store.items().len(), 1);
-    let item = store.items().first().ok_or("an item")?;
-    assert_eq!(rt; item.as_slice(), b"C".as_slice());
+    let mut store = store_of_one(rt.alloc())?;
+    let status = put_over(&rt, rt.alloc(), &mut store)?;
+    assert_eq!(rt; status, 0);
+    assert!(rt; is_store_of_one(&store));
     Ok(())
 }

@@ -1,10 +1,8 @@
 //! The command `steps` over its worked examples, and over texts and calls that fail.
-use super::slow::{SlowSink, SlowSource};
-use super::{Call, Case, outcome_of, strings};
-use crate::store::MemStore;
-use crate::top::a1;
-use a1_base::NoGate;
+use super::{Case, Scripts, assert_case, assert_scripts};
 use std::alloc::{AllocError, Global};
+use std::process::Abort;
+use std::sync::Wait;
 use std::test::Fail;
 
 // Each event with its answer.
@@ -89,22 +87,66 @@ const PINNED: Rows = &[
     ("collect 0", "floor 2 versions 1 objects 0"),
 ];
 
-fn stepping<'a>(script: &'a [&'a str]) -> Call<'a> {
-    Call {
-        words: &["steps"],
-        script,
-        failing_read: 0,
-        failing_write: 0,
-    }
-}
+const RANGES: Rows = &[
+    ("load 3145727:4095 00ff", "loaded"),
+    ("begin 35.1", "at 1"),
+    ("begin 1.2", "no"),
+    ("read 35.1 3145727:4095", "value 1 00ff"),
+    ("read 35.2 0:0", "no"),
+    ("collect 2", "floor 1 versions 0 objects 0"),
+];
 
-fn refusing<'a>(script: &'a [&'a str], text: &'a str) -> Case<'a> {
+const MALFORMED: Scripts = &[
+    (&["\n"], "script 1\n"),
+    (&["load 0:0 aa\n\nbegin 1.1\n"], "script 2\n"),
+    (&["load 0:0 aa\nbegin 1.1"], "script 2\n"),
+    (&["begin 1.1\r\n"], "script 1\n"),
+    (&["begin  1.1\n"], "script 1\n"),
+    (&["begin 01.1\n"], "script 1\n"),
+    (&["begin 0.1\n"], "script 1\n"),
+    (&["begin 36.1\n"], "script 1\n"),
+    (&["begin 1.18446744073709551616\n"], "script 1\n"),
+    (&["load 0:0 AA\n"], "script 1\n"),
+    (&["load 0:0 a\n"], "script 1\n"),
+    (&["load 0:0 \n"], "script 1\n"),
+    (&["load 0:0 -\n"], "script 1\n"),
+    (&["load 3145728:0 aa\n"], "script 1\n"),
+    (&["load 0:4096 aa\n"], "script 1\n"),
+    (&["begin 1.1\n", "alloc 1.1 3 aa\n"], "script 2\n"),
+    (&["collect 2\n", "collect 3\n"], "script 2\n"),
+];
+
+const UNREAD: Case = Case {
+    words: &["steps"],
+    script: &["load 0:0 aa\n"],
+    failing_read: 1,
+    failing_write: 0,
+    status: 3,
+    text: "",
+};
+
+const UNWRITTEN: Case = Case {
+    failing_read: 0,
+    failing_write: 1,
+    status: 4,
+    ..UNREAD
+};
+
+const FAILING: &[Case] = &[
+    UNREAD,
+    UNWRITTEN,
     Case {
-        call: stepping(script),
-        status: 8,
-        text,
-    }
-}
+        script: &["\n"],
+        ..UNWRITTEN
+    },
+    Case {
+        words: &["steps", "x"],
+        failing_write: 0,
+        status: 2,
+        text: "usage\n",
+        ..UNWRITTEN
+    },
+];
 
 fn push_line(text: &mut String, line: &str) -> Result<(), AllocError> {
     text.push_str(line)?;
@@ -122,142 +164,42 @@ fn texts(alloc: Global, rows: &[(&str, &str)]) -> Result<(String, String), Alloc
     Ok((events, answers))
 }
 
+fn assert_rows<T: Wait + Abort>(rt: &T, alloc: Global, rows: Rows) -> Result<(), AllocError> {
+    let (events, answers) = texts(alloc, rows)?;
+    assert_scripts(
+        rt,
+        alloc,
+        &["steps"],
+        0,
+        &[(&[events.as_str()], answers.as_str())],
+    )
+}
+
 #[test]
 fn worked_examples(rt: HostRuntime) -> Result<(), Fail> {
     let none: Rows = &[];
     for rows in [none, WRITE_SKEW, OLD_SNAPSHOT, PLACE_AGAIN, PINNED] {
-        let (events, answers) = texts(rt.alloc(), rows)?;
-        let (outcome, text) = outcome_of(&rt, rt.alloc(), &stepping(&[events.as_str()]))?;
-        assert_eq!(rt; outcome.status, 0, "{:?}", answers);
-        assert!(rt; text.as_slice() == answers.as_bytes(), "{:?}", answers);
+        assert_rows(&rt, rt.alloc(), rows)?;
     }
     Ok(())
 }
 
 #[test]
 fn at_the_ranges(rt: HostRuntime) -> Result<(), Fail> {
-    let rows: Rows = &[
-        ("load 3145727:4095 00ff", "loaded"),
-        ("begin 35.1", "at 1"),
-        ("begin 1.2", "no"),
-        ("read 35.1 3145727:4095", "value 1 00ff"),
-        ("read 35.2 0:0", "no"),
-        ("collect 2", "floor 1 versions 0 objects 0"),
-    ];
-    let (events, answers) = texts(rt.alloc(), rows)?;
-    let (outcome, text) = outcome_of(&rt, rt.alloc(), &stepping(&[events.as_str()]))?;
-    assert_eq!(rt; outcome.status, 0);
-    assert!(rt; text.as_slice() == answers.as_bytes(), "{:?}", answers);
+    assert_rows(&rt, rt.alloc(), RANGES)?;
     Ok(())
 }
 
 #[test]
 fn texts_out_of_form(rt: HostRuntime) -> Result<(), Fail> {
-    let cases = [
-        refusing(&["\n"], "script 1\n"),
-        refusing(&["load 0:0 aa\n\nbegin 1.1\n"], "script 2\n"),
-        refusing(&["load 0:0 aa\nbegin 1.1"], "script 2\n"),
-        refusing(&["begin 1.1\r\n"], "script 1\n"),
-        refusing(&["begin  1.1\n"], "script 1\n"),
-        refusing(&["begin 01.1\n"], "script 1\n"),
-        refusing(&["begin 0.1\n"], "script 1\n"),
-        refusing(&["begin 36.1\n"], "script 1\n"),
-        refusing(&["begin 1.18446744073709551616\n"], "script 1\n"),
-        refusing(&["load 0:0 AA\n"], "script 1\n"),
-        refusing(&["load 0:0 a\n"], "script 1\n"),
-        refusing(&["load 0:0 \n"], "script 1\n"),
-        refusing(&["load 0:0 -\n"], "script 1\n"),
-        refusing(&["load 3145728:0 aa\n"], "script 1\n"),
-        refusing(&["load 0:4096 aa\n"], "script 1\n"),
-        refusing(&["begin 1.1\n", "alloc 1.1 3 aa\n"], "script 2\n"),
-        refusing(&["collect 2\n", "collect 3\n"], "script 2\n"),
-    ];
-    for case in &cases {
-        let (outcome, text) = outcome_of(&rt, rt.alloc(), &case.call)?;
-        assert_eq!(rt; outcome.status, case.status, "{:?}", case.call.script);
-        assert!(rt;
-            text.as_slice() == case.text.as_bytes(),
-            "{:?}",
-            case.call.script
-        );
-    }
+    assert_scripts(&rt, rt.alloc(), &["steps"], 8, MALFORMED)?;
     Ok(())
 }
 
 #[test]
 fn calls_that_fail(rt: HostRuntime) -> Result<(), Fail> {
-    let whole = stepping(&["load 0:0 aa\n"]);
-    let cases = [
-        Case {
-            call: Call {
-                words: &["steps", "x"],
-                ..whole
-            },
-            status: 2,
-            text: "usage\n",
-        },
-        Case {
-            call: Call {
-                failing_read: 1,
-                ..whole
-            },
-            status: 3,
-            text: "",
-        },
-        Case {
-            call: Call {
-                failing_write: 1,
-                ..whole
-            },
-            status: 4,
-            text: "",
-        },
-        Case {
-            call: Call {
-                failing_write: 1,
-                ..stepping(&["\n"])
-            },
-            status: 4,
-            text: "",
-        },
-    ];
-    for case in &cases {
-        let (outcome, text) = outcome_of(&rt, rt.alloc(), &case.call)?;
-        assert_eq!(rt; outcome.status, case.status, "{:?}", case.text);
-        assert!(rt; text.as_slice() == case.text.as_bytes(), "{:?}", case.text);
+    for case in FAILING {
+        assert_case(&rt, rt.alloc(), case)?;
     }
-    Ok(())
-}
-
-#[test]
-fn a_sink_that_fails_in_the_middle(rt: HostRuntime) -> Result<(), Fail> {
-    let alloc = rt.alloc();
-    let words = strings(alloc, &["steps"])?;
-    let mut source = SlowSource {
-        bytes: Vec::from_slice(alloc, b"load 0:0 aa\nbegin 1.1\n")?,
-        at: 0,
-        calls: 0,
-        failing: 0,
-        faults: 0,
-    };
-    let mut sink = SlowSink {
-        taken: Vec::new(alloc),
-        calls: 0,
-        failing: 10,
-        idle: 0,
-        faults: 0,
-    };
-    let mut store = MemStore::new(Vec::new(alloc), Vec::new(alloc));
-    let outcome = a1(
-        &rt,
-        alloc,
-        &words,
-        &mut source,
-        &mut sink,
-        &mut store,
-        &NoGate,
-    );
-    assert_eq!(rt; outcome.status, 4);
-    assert!(rt; sink.taken.as_slice() == b"loaded\nat".as_slice());
     Ok(())
 }

@@ -1,8 +1,8 @@
 -- What a call of a store does to its list of items.
 use Rattle.std.specs.Prelude.{◌≡◌, ◌⊎◌, ℕ, ◌≤◌, ◌<◌, ◌^◌, List, [], ◌∷◌, ◌++◌, Option, Some, None, Result, Ok, Err, slice_get, ⊤}
 use Rattle.a1_base.specs.Outside.{Rose}
-use Rattle.a1.specs.declared.store.StoreMiss.{StoreMiss}
-use Rattle.a1.specs.declared.store.StoreMiss.TheVariants.{Failed, Memory}
+use Rattle.object_store.specs.declared.store.StoreMiss.{StoreMiss}
+use Rattle.object_store.specs.declared.store.StoreMiss.TheVariants.{Failed, Memory}
 
 -- an item more at Ok; after a failure it may be there or not; want of memory adds none
 abbrev pub PutAdds : Option (List (List ℕ)) → Option (List (List ℕ)) → List ℕ → Result ⊤ StoreMiss → Type 0

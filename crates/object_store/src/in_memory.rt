@@ -1,38 +1,10 @@
-//! Where items are kept.
-ghost use Rattle.std.specs.Prelude.{◌≡◌, ℕ, List, Option, Some, OnErr};
+//! Items in memory, as a store that fails where it is told to.
+ghost use Rattle.std.specs.Prelude.{◌≡◌, Some, OnErr};
 ghost use Rattle.a1_base.specs.InMemory.{next_number, fails_at};
-ghost use Rattle.a1.specs.Stored.{PutAdds, GetGives, PutsWithCause, GetsWithCause};
+ghost use Rattle.object_store.specs.Stored.{PutAdds, GetGives, PutsWithCause, GetsWithCause};
 
+use crate::{Store, StoreMiss};
 use a1_base::Bin;
-
-/// Why a call of a store did not do its work.
-#[derive(Clone, Copy, Debug, PartialEq, Eq)]
-pub enum StoreMiss {
-    /// The store failed, and has counted it.
-    Failed,
-    /// Want of memory.
-    Memory,
-}
-
-/// A durable list of items.
-pub trait Store {
-    /// The items, where it tells them.
-    ghost items: { Self → Option (List (List ℕ)) };
-
-    /// How often it has failed.
-    ghost faults: { Self → ℕ };
-
-    /// Puts an item at the end. After `Failed` the list is as before or has the item as its last.
-    fn put(&mut self, item: &[u8]) -> Result<(), StoreMiss>
-        ensures items { PutAdds (items self.old) (items self.new) item.now result }
-        ensures cause { PutsWithCause (faults self.old) (faults self.new) result };
-
-    /// The item at this index, from 0; none exactly at or past the end.
-    fn get(&mut self, index: u64) -> Result<Option<Bin>, StoreMiss>
-        ensures item { GetGives (items self.old) index result }
-        ensures same { items self.new ≡ items self.old }
-        ensures cause { GetsWithCause (faults self.old) (faults self.new) result };
-}
 
 /// Items in memory. The calls whose numbers, from 1, are in `fails` answer `Failed`, and put nothing.
 #[derive(Drop)]
@@ -44,7 +16,7 @@ pub struct MemStore {
 }
 
 impl MemStore {
-    ghost use Rattle.a1.specs.MemStore.{items_of, calls_made, failing_calls, store_faults};
+    ghost use Rattle.object_store.specs.MemStore.{items_of, calls_made, failing_calls, store_faults};
 
     pub fn new(items: Vec<Bin>, fails: Vec<u64>) -> MemStore
         ensures items { items_of result ≡ items.items }
@@ -69,7 +41,7 @@ impl MemStore {
 }
 
 impl Store for MemStore {
-    ghost use Rattle.a1.specs.MemStore.{items_of, calls_made, failing_calls, store_faults, IsMiss};
+    ghost use Rattle.object_store.specs.MemStore.{items_of, calls_made, failing_calls, store_faults, IsMiss};
 
     ghost items = { λ s. Some (items_of s) };
 

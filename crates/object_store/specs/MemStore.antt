@@ -1,8 +1,8 @@
 -- What the store in memory holds, and which of its calls fail.
 use Rattle.std.specs.Prelude.{◌≡◌, ℕ, List, Bool, true, false, Result, Ok, Err}
-use Rattle.a1.specs.declared.store.MemStore.{MemStore}
-use Rattle.a1.specs.declared.store.StoreMiss.{StoreMiss}
-use Rattle.a1.specs.declared.store.StoreMiss.TheVariants.{Failed, Memory}
+use Rattle.object_store.specs.declared.in_memory.MemStore.{MemStore}
+use Rattle.object_store.specs.declared.store.StoreMiss.{StoreMiss}
+use Rattle.object_store.specs.declared.store.StoreMiss.TheVariants.{Failed, Memory}
 
 -- the items
 abbrev pub items_of : MemStore → List (List ℕ)

@@ -1,6 +1,6 @@
 use Rattle.std.proofs.Common.{◌≡◌, ◌∙◌, ◌-◌, [], refl, sym, ap, take, map, append-nil}
-use Rattle.a1.proofs.TopLemmas.{none_legal}
-use Rattle.a1.proofs.top.serve_script.Goals as goal
+use Rattle.a1.proofs.RunningLemmas.{none_legal}
+use Rattle.a1.proofs.running.serve_script.Goals as goal
 
 pub returns-in_default : goal.returns-in_default
 returns-in_default c =
