@@ -1,5 +1,5 @@
 -- Joining two seats keeps the rule.
-use Rattle.std.proofs.Common.{sum_by, ◌≡◌, ◌≢◌, ◌⊎◌, ℕ, ◌+◌, ◌<◌, ◌≤◌, Bool, true, false, cond, nat_lt, List, length, set, sym, refl, ap, ◌∙◌, subst, inl, inr, ⊎_elim, arith, length-append, lt-ltb, le-ltb}
+use Rattle.std.proofs.Common.{sum_by, ◌≡◌, ◌≢◌, ◌⊎◌, ℕ, ◌+◌, ◌<◌, ◌≤◌, Bool, cond, List, length, set, sym, refl, ap, ◌∙◌, subst, inl, inr, ⊎_elim, arith, length-append, lt-ltb, le-ltb}
 use mathlib.Core.Option.{some}
 use native.Mathlib.Decide.{dec_lt}
 use lib.ListN.{get_elem?}
@@ -34,23 +34,7 @@ module _ {E : Type 0} where
         subst (λ (t : Bool). IsAmong k (cond t v.numbers w.numbers) → entries_of number k (cond t w.seen v.seen) ≡ entries_of number k (cond t v.seen w.seen)) (sym (le-ltb (length v.seen) (length w.seen) le))
         (λ h. sym (of_between number k log w.seen v.seen p (between log w.seen v.seen q p le) (own' k h)) ∙ own' k h)
 
-  -- of two seats that become one, each knows its own entries
-  pub joined_both : (number : E → ℕ) (v w : View E) → ((k : ℕ) → IsAmong k (joined v w).heard_numbers → entries_of number k (joined v w).seen ≡ entries_of number k (joined v w).heard)
-      → ((k : ℕ) → IsAmong k v.numbers → entries_of number k (joined v w).seen ≡ entries_of number k v.seen) × ((k : ℕ) → IsAmong k w.numbers → entries_of number k (joined v w).seen ≡ entries_of number k w.seen)
-  joined_both number v w = by_test (nat_lt (length v.seen) (length w.seen)) where
-    by_test : (t : Bool) → ((k : ℕ) → IsAmong k (cond t v.numbers w.numbers) → entries_of number k (cond t w.seen v.seen) ≡ entries_of number k (cond t v.seen w.seen))
-        → ((k : ℕ) → IsAmong k v.numbers → entries_of number k (cond t w.seen v.seen) ≡ entries_of number k v.seen) × ((k : ℕ) → IsAmong k w.numbers → entries_of number k (cond t w.seen v.seen) ≡ entries_of number k w.seen)
-    by_test true h = (h, λ k p. refl)
-    by_test false h = (λ k p. refl, h)
-
-  -- two lists, of which one begins the other, begin the longer
-  pub longer_both : (a b : List E) → Begins (longer a b) (shorter a b) → Begins (longer a b) a × Begins (longer a b) b
-  longer_both a b h = by_test (nat_lt (length a) (length b)) h where
-    by_test : (t : Bool) → Begins (cond t b a) (cond t a b) → Begins (cond t b a) a × Begins (cond t b a) b
-    by_test true h = (h, begins_itself b)
-    by_test false h = (begins_itself a, h)
-
-  pub by_length : (a b : List E) → ((longer a b ≡ b) × (length a ≤ length b)) ⊎ ((longer a b ≡ a) × (length b ≤ length a))
+  by_length : (a b : List E) → ((longer a b ≡ b) × (length a ≤ length b)) ⊎ ((longer a b ≡ a) × (length b ≤ length a))
   by_length a b = by_test (dec_lt (length a) (length b)) where
     by_test : Dec (length a < length b) → ((longer a b ≡ b) × (length a ≤ length b)) ⊎ ((longer a b ≡ a) × (length b ≤ length a))
     by_test (yes lt) = inl (ap (λ (t : Bool). cond t b a) (lt-ltb (length a) (length b) lt), omega arith)
