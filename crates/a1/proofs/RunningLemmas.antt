@@ -5,12 +5,13 @@ use Rattle.std.specs.List.{IsDistinct}
 use Rattle.std.proofs.lemmas.Bool.Decides.{nat_tests}
 use Rattle.request_reader.specs.Graph.{Graph}
 use Rattle.answer_text.specs.Legal.{IsLegal}
-use Rattle.run_text.specs.Script.{script_of, script_limit}
+use Rattle.run_text.specs.Script.{script_of}
+use Rattle.a1_base.specs.declared.limits.TheConstants.{SCRIPT_LIMIT}
 
 -- a script that is too long breaks the grammar as a whole
-pub long_script : (bytes : List ℕ) → script_limit < length bytes → script_of bytes ≡ Err 0
+pub long_script : (bytes : List ℕ) → SCRIPT_LIMIT < length bytes → script_of bytes ≡ Err 0
 unfolding script_of
-long_script bytes h = let e : nat_lt script_limit (length bytes) ≡ true = grind (arith, nat_tests) in rw e
+long_script bytes h = let e : nat_lt SCRIPT_LIMIT (length bytes) ≡ true = grind (arith, nat_tests) in rw e
 
 -- no session is a legal history
 pub none_legal : (graph : Graph) (base : ℕ) → IsLegal graph base [] []

@@ -9,7 +9,8 @@ use Rattle.request_reader.specs.Graph.{opening}
 use Rattle.answer_text.specs.Transcript.{text_of}
 use Rattle.answer_text.specs.Legal.{IsLegal}
 use Rattle.answer_text.specs.declared.transcript.Transcript.{Transcript}
-use Rattle.run_text.specs.Script.{script_limit, asked_in}
+use Rattle.run_text.specs.Script.{asked_in}
+use Rattle.a1_base.specs.declared.limits.TheConstants.{SCRIPT_LIMIT}
 use Rattle.run_text.specs.Run.{empty_run}
 use Rattle.run_text.specs.declared.run.Run.{Run}
 use Rattle.a1.specs.Streams.{WritesFront}
@@ -29,7 +30,7 @@ IsInputFault IsBad before now input.Memory = ⊤
 
 -- the text has more bytes than a script may have, and the line is 0
 abbrev pub IsTooLong : Option (List ℕ) → ℕ → Type 0
-IsTooLong script line = (line ≡ 0) × IfSome script (λ bytes. script_limit < length bytes)
+IsTooLong script line = (line ≡ 0) × IfSome script (λ bytes. SCRIPT_LIMIT < length bytes)
 
 -- the transcript of these sessions
 pub record IsServed (script : List (ℕ × List (List ℕ))) (sessions : List Transcript) : Type 0 where

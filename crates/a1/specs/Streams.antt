@@ -2,7 +2,7 @@
 use Rattle.std.specs.Prelude.{◌≡◌, ℕ, ◌<◌, ◌≤◌, List, [], length, take, Option, Some, None, ⊤}
 use Rattle.std.specs.Io.KnownBytes.{append_known}
 use Rattle.a1_base.specs.Outside.{Rose}
-use Rattle.run_text.specs.Script.{script_limit}
+use Rattle.a1_base.specs.declared.limits.TheConstants.{SCRIPT_LIMIT}
 use Rattle.a1.specs.declared.streams.Input.{Input}
 use Rattle.a1.specs.declared.streams.Input.TheVariants.{Whole, TooLong}
 use Rattle.a1.specs.declared.streams.ReadFault.{ReadFault}
@@ -10,10 +10,10 @@ use Rattle.a1.specs.declared.streams.ReadFault.TheVariants.{Failed, Memory}
 
 -- all that the source held, which then holds nothing; or more than the limit
 abbrev pub IsInput : Option (List ℕ) → Option (List ℕ) → Input → Type 0
-IsInput None new (Whole bytes) = length bytes ≤ script_limit
+IsInput None new (Whole bytes) = length bytes ≤ SCRIPT_LIMIT
 IsInput None new TooLong = ⊤
-IsInput (Some all) new (Whole bytes) = (all ≡ bytes) × (length bytes ≤ script_limit) × (new ≡ Some [])
-IsInput (Some all) new TooLong = script_limit < length all
+IsInput (Some all) new (Whole bytes) = (all ≡ bytes) × (length bytes ≤ SCRIPT_LIMIT) × (new ≡ Some [])
+IsInput (Some all) new TooLong = SCRIPT_LIMIT < length all
 
 -- a read that failed has its cause; want of memory has none
 abbrev pub ReadsWithCause : ℕ → ℕ → ReadFault → Type 0

@@ -1,6 +1,6 @@
 //! The text that a command serves, and what is said where it breaks its grammar.
 ghost use Rattle.std.specs.Prelude.{◌≡◌, ◌≤◌, length, Some, IfOk, IfErr, IfSome, [], string_bytes};
-ghost use Rattle.run_text.specs.Script.{script_limit};
+ghost use Rattle.a1_base.specs.declared.limits.TheConstants.{SCRIPT_LIMIT};
 ghost use Rattle.a1.specs.Outcome.{bad_line_text};
 ghost use Rattle.a1.specs.Parts.{IsInputFault, IsTooLong, SaysLine};
 
@@ -31,7 +31,7 @@ pub enum SayFault {
 /// The text that the source holds; `Line(0)` where it has more bytes than a script may have.
 pub fn text_in<R: Source>(alloc: Global, source: &mut R) -> Result<Bin, InputFault>
     ensures bytes { IfOk result (λ text. IfSome (R.left source.old) (λ bytes. bytes ≡ text)) }
-    ensures short { IfOk result (λ text. length text ≤ script_limit) }
+    ensures short { IfOk result (λ text. length text ≤ SCRIPT_LIMIT) }
     ensures end { IfOk result (λ text. IfSome (R.left source.old) (λ bytes. R.left source.new ≡ Some [])) }
     ensures fault { IfErr result (IsInputFault (IsTooLong (R.left source.old)) (R.faults source.old) (R.faults source.new)) }
 {

@@ -3,7 +3,8 @@ ghost use Rattle.std.specs.Prelude.{◌≡◌, ◌≤◌, List, [], ◌∷◌, O
 ghost use Rattle.std.specs.declared.alloc.Global.{Global};
 ghost use Rattle.request_reader.specs.Graph.{opening};
 ghost use Rattle.answer_text.specs.Legal.{IsLegal};
-ghost use Rattle.run_text.specs.Script.{script_of, script_limit, request_count, asked_in};
+ghost use Rattle.run_text.specs.Script.{script_of, request_count, asked_in};
+ghost use Rattle.a1_base.specs.declared.limits.TheConstants.{SCRIPT_LIMIT};
 ghost use Rattle.a1.specs.Outcome.{is_run, opening_stamp, IsBadAt, Ends};
 ghost use Rattle.a1.specs.Parts.{IsInputFault, IsServed, SaysMalformed, RunsScript};
 
@@ -25,7 +26,7 @@ const OPENING_STAMP: u64 = 1;
 #[tactic(auto, using(crate::proofs::RunningLemmas::long_script))]
 fn script_in<R: Source>(alloc: Global, source: &mut R) -> Result<Script, InputFault>
     ensures ok { IfOk result (λ script. IfSome (R.left source.old) (λ bytes. script_of bytes ≡ Ok script)) }
-    ensures few { IfOk result (λ script. request_count script ≤ script_limit) }
+    ensures few { IfOk result (λ script. request_count script ≤ SCRIPT_LIMIT) }
     ensures alone { IfOk result (λ script. length script ≤ 1) }
     ensures end { IfOk result (λ script. IfSome (R.left source.old) (λ bytes. R.left source.new ≡ Some [])) }
     ensures fault { IfErr result (IsInputFault (IsBadAt (R.left source.old)) (R.faults source.old) (R.faults source.new)) }
@@ -40,7 +41,7 @@ fn script_in<R: Source>(alloc: Global, source: &mut R) -> Result<Script, InputFa
 
 // Serves a session from the graph that a database begins with.
 fn serve_opening(alloc: Global, number: u32, requests: Vec<Bin>) -> Result<Transcript, Memory>
-    requires { length requests.items ≤ script_limit }
+    requires { length requests.items ≤ SCRIPT_LIMIT }
     ensures of { IfOk result (λ t. asked_in (t ∷ []) ≡ (number, requests.items) ∷ []) }
     ensures legal { IfOk result (λ t. IsLegal opening opening_stamp (t ∷ []) []) }
 {
@@ -51,7 +52,7 @@ fn serve_opening(alloc: Global, number: u32, requests: Vec<Bin>) -> Result<Trans
 
 // Serves the only session of a script.
 fn serve_script(alloc: Global, script: Script) -> Result<Items<Transcript>, Memory>
-    requires few { request_count script ≤ script_limit }
+    requires few { request_count script ≤ SCRIPT_LIMIT }
     requires alone { length script ≤ 1 }
     ensures { IfOk result (IsServed script) }
 {
@@ -77,7 +78,7 @@ fn say_malformed<W: Sink>(alloc: Global, sink: &mut W, line: u64) -> Ending
 
 // Serves the script, and writes the transcript.
 fn run_script<W: Sink>(alloc: Global, sink: &mut W, script: Script) -> (Ending, Run)
-    requires few { request_count script ≤ script_limit }
+    requires few { request_count script ≤ SCRIPT_LIMIT }
     requires alone { length script ≤ 1 }
     ensures { RunsScript script (W.written sink.old) (W.written sink.new) (W.faults sink.old) (W.faults sink.new) result.0 result.1 }
 {

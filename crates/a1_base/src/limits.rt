@@ -3,8 +3,20 @@
 /// The most nodes of a database.
 pub const NODE_LIMIT: u32 = 16;
 
-/// The most sessions of a script.
+/// The most sessions of a script. The actors 1 to this are sessions.
 pub const SESSION_LIMIT: u32 = 32;
+
+/// The actor behind the sessions that deletes what a dropped graph held.
+pub const DELETION_ACTOR: u32 = 33;
+
+/// The actor behind the sessions that collects old versions.
+pub const COLLECTOR_ACTOR: u32 = 34;
+
+/// The actor behind the sessions that sweeps logs into the store.
+pub const SWEEPER_ACTOR: u32 = 35;
+
+/// The actors of a database, from 1 to this.
+pub const ACTOR_LIMIT: u32 = 35;
 
 /// The most bytes of a script.
 pub const SCRIPT_LIMIT: usize = 33_554_432;
@@ -48,8 +60,17 @@ pub const WORKING_SET_LIMIT: usize = 100_000;
 /// The most regions of a node.
 pub const REGION_LIMIT: u32 = 1_048_576;
 
-/// Every stamp is below this.
+/// The places of a region.
+pub const REGION_WIDTH: u32 = 4_096;
+
+/// Every stamp is below this, 2^62.
 pub const STAMP_LIMIT: u64 = 4_611_686_018_427_387_904;
+
+/// The last stamp.
+pub const LAST_STAMP: u64 = STAMP_LIMIT - 1;
+
+/// The stamp of the graph, or of the heap, that a database begins with.
+pub const OPENING_STAMP: u64 = 1;
 
 /// Every graph number is below this.
 pub const GRAPH_NUMBER_LIMIT: u64 = 4_611_686_018_427_387_903;

@@ -1,6 +1,7 @@
 -- What an open transaction's events need, and where they lead.
 use Rattle.std.proofs.Common.{◌≡◌, ◌≢◌, ◌⊎◌, ℕ, ◌+◌, ◌-◌, ◌^◌, ◌%◌, ◌<◌, ◌≤◌, max, Bool, true, false, not, ◌&&◌, ◌||◌, List, [], ◌∷◌, ◌++◌, length, get_or, Option, Some, Result, Ok, Err, sym, refl, ap, ◌∙◌, subst, inl, inr, ⊎_elim, arith}
 use Rattle.std.proofs.Math.ListN.{set}
+use Rattle.a1_base.specs.declared.limits.TheConstants.{LAST_STAMP, STAMP_LIMIT}
 use Rattle.a1_base.specs.declared.place.Addr.{Addr}
 use Rattle.a1_base.specs.declared.place.TxnId.{TxnId}
 use Rattle.a1_base.specs.declared.Memory.{Memory}
@@ -18,16 +19,17 @@ use Rattle.farm_node.specs.declared.faults.LockFault.TheVariants.{Held as LockHe
 use Rattle.farm_node.specs.declared.entry.Entry.{Entry}
 use Rattle.farm_node.specs.declared.entry.Entry.TheVariants.{Read as ReadEntry, Alloc as AllocEntry, Lock as LockEntry, Check as CheckEntry, Put as PutEntry, Unlock as UnlockEntry}
 use Rattle.farm_node.specs.Cell.{Bytes, Cell, read_answer, lock_answer, check_answer}
-use Rattle.farm_node.specs.Plain.{Plain, IsStamp, PinnedBy, HeldBy, MayLock, MayPut, Adds, occupancy}
+use Rattle.farm_node.specs.NodeState.{NodeState, PinnedBy, HeldBy, MayLock, MayPut, Adds, occupancy}
+use Rattle.a1_base.specs.Stamps.{IsStamp}
 use Rattle.farm_node.specs.Node.{plain_of}
 use Rattle.farm_node.specs.Story.{story}
-use Rattle.farm_node.specs.Answers.{Gives, read_entry, lock_entry}
+use Rattle.farm_node.specs.Answers.{read_entry, lock_entry, AddsIfMade}
 use Rattle.farm_core.specs.declared.event.Event.TheVariants.{Read, Alloc, Lock, Draw, Check, Put, Unlock}
 use Rattle.farm_core.specs.declared.event.Answer.{Answer}
 use Rattle.farm_core.specs.declared.event.Answer.TheVariants.{Held as HeldBack, Placed, Spent, Locked, Stamp, Same, Put as Installed, Unlocked}
 use Rattle.farm_core.specs.declared.active.Phase.TheVariants as phase
 use Rattle.farm_core.specs.declared.active.Active.{Active}
-use Rattle.farm_core.specs.declared.reads.Reads.{Reads}
+use Rattle.farm_core.specs.declared.reads.ReadMarks.{ReadMarks}
 use Rattle.farm_core.specs.Machine.{Reading, Drawn, Installing, Refused, Transaction, in_stage, drawn_at, with_read, with_locked, with_same, State, home, node_at, node_of, adding, moving, IsAt, HoldsLockAt, found_answer, fault_answer, Reads as ReadsAt, Locks, Checks}
 use Rattle.farm_core.specs.ReadSet.{reading, checked}
 use Rattle.farm_core.specs.ReadSets.{read_set}
@@ -59,11 +61,11 @@ module _ (s : State) (r : Reached s) (t : TxnId) (x : Active) (nodes : List Node
   write_low = subst IsStamp (sym at.active.write_stamp) (stamp_below y.write_stamp s.clock _ (g.base.sane t).write g.base.clock.1)
 
   pub clock_fits : (clock : ℕ) → clock ≡ s.clock → clock + 1 < 2 ^ 64
-  clock_fits clock is = let low : s.clock < 2 ^ 62 = g.base.clock.1 in omega arith
+  clock_fits clock is = let low : s.clock < STAMP_LIMIT = g.base.clock.1 in omega arith
 
   pub pinned_at : (n : ℕ) (d : Node) → n < s.nodes → y.is_open ≡ true → PinnedBy (plain_of (get_or nodes n d)) t.actor x.read_stamp
   pinned_at n d less is_open =
-      (x.read_stamp, ap (λ (p : Plain). p.pins t.actor) (old_is s g nodes at.nodes_stand n d d less) ∙ (g.pins.open_at t n less is_open ∙ ap Some (sym at.active.read_stamp)), self_le x.read_stamp)
+      (x.read_stamp, ap (λ (p : NodeState). p.pins t.actor) (old_is s g nodes at.nodes_stand n d d less) ∙ (g.pins.open_at t n less is_open ∙ ap Some (sym at.active.read_stamp)), self_le x.read_stamp)
 
   -- what it reads is not locked nor found the same
   module _ (a : Addr) (going : IsAt Reading s t) (free : HoldsLockAt s t a → ⊥) where
@@ -96,7 +98,7 @@ module _ (s : State) (r : Reached s) (t : TxnId) (x : Active) (nodes : List Node
 
   -- draw
 
-  pub draw_spent : (clock : ℕ) → clock ≡ s.clock → clock ≡ 2 ^ 62 - 1 → Acted t s (Draw t) (Ok Spent) (AtClock (record x { phase = phase.Refused }) nodes clock t)
+  pub draw_spent : (clock : ℕ) → clock ≡ s.clock → clock ≡ LAST_STAMP → Acted t s (Draw t) (Ok Spent) (AtClock (record x { phase = phase.Refused }) nodes clock t)
   draw_spent clock is full = (
     moving t (in_stage Refused) s,
     inr (sym is ∙ full, (refl, refl)),
@@ -104,7 +106,7 @@ module _ (s : State) (r : Reached s) (t : TxnId) (x : Active) (nodes : List Node
     record { standing = at_still s g t (in_stage Refused) (record x { phase = phase.Refused }) nodes at.nodes_stand (open_staged x y at.active phase.Refused) at.held; clock_is = is },
   )
 
-  pub draw_stamp : (clock : ℕ) → clock ≡ s.clock → clock ≢ 2 ^ 62 - 1
+  pub draw_stamp : (clock : ℕ) → clock ≡ s.clock → clock ≢ LAST_STAMP
       → Acted t s (Draw t) (Ok (Stamp (clock + 1))) (AtClock (record x { phase = phase.Drawn; write_stamp = clock + 1 }) nodes (clock + 1) t)
   draw_stamp clock is more = (
     drawn,
@@ -123,8 +125,8 @@ module _ (s : State) (r : Reached s) (t : TxnId) (x : Active) (nodes : List Node
     drawn : State
     drawn = moving t (drawn_at (s.clock + 1)) (record s { clock = s.clock + 1 })
 
-    less : s.clock < 2 ^ 62 - 1
-    less = let low : s.clock < 2 ^ 62 = g.base.clock.1 in omega arith
+    less : s.clock < LAST_STAMP
+    less = let low : s.clock < STAMP_LIMIT = g.base.clock.1 in omega arith
 
   module _ (a : Addr) (n : ℕ) (d : Node) (is : n ≡ a.region % length nodes) where
     abbrev old : Node
@@ -143,13 +145,13 @@ module _ (s : State) (r : Reached s) (t : TxnId) (x : Active) (nodes : List Node
     pinned_here is_open = pinned_at n d less is_open
 
     pub held_here : HoldsLockAt s t a → HeldBy (plain_of old) t a
-    held_here held = subst (λ (p : Plain). HeldBy p t a) (sym here) held
+    held_here held = subst (λ (p : NodeState). HeldBy p t a) (sym here) held
 
     pub free_here : (HoldsLockAt s t a → ⊥) → HeldBy (plain_of old) t a → ⊥
-    free_here free held = free (subst (λ (p : Plain). HeldBy p t a) here held)
+    free_here free held = free (subst (λ (p : NodeState). HeldBy p t a) here held)
 
     pub may_lock_here : MayLock (node_of s a) t a y.read_stamp → MayLock (plain_of old) t a x.read_stamp
-    may_lock_here may = subst (λ (z : Plain × ℕ). MayLock z.0 t a z.1) (λ i. (sym here i, sym at.active.read_stamp i)) may
+    may_lock_here may = subst (λ (z : NodeState × ℕ). MayLock z.0 t a z.1) (λ i. (sym here i, sym at.active.read_stamp i)) may
 
     written : (v : Node) (e : Entry) → Adds (plain_of old) e (plain_of v) → NodesStand (set nodes n v) s.nodes (adding (home s a) e s).logs
     written v e adds = subst (λ (m : ℕ). NodesStand (set nodes n v) s.nodes (adding m e s).logs) n_is (nodes_written s g nodes at.nodes_stand n d v less e adds)
@@ -176,7 +178,7 @@ module _ (s : State) (r : Reached s) (t : TxnId) (x : Active) (nodes : List Node
           → result ≡ check_answer y.read_stamp ((node_of s a).cells a)
       check_due result adds = adds.fits.due ∙ (λ i. check_answer (at.active.read_stamp i) ((here i).cells a))
 
-      pub check_same : (reads : Reads) → Adds (plain_of old) (CheckEntry t a x.read_stamp x.write_stamp (Ok tt)) (plain_of v) → read_set reads ≡ checked a (read_set x.reads)
+      pub check_same : (reads : ReadMarks) → Adds (plain_of old) (CheckEntry t a x.read_stamp x.write_stamp (Ok tt)) (plain_of v) → read_set reads ≡ checked a (read_set x.reads)
           → Acted t s (Check t a) (Ok Same) (λ later. At (record x { reads = reads }) (set nodes n v) t later × (later.clock ≡ s.clock))
       check_same reads adds sets = (
         later,
@@ -207,7 +209,7 @@ module _ (s : State) (r : Reached s) (t : TxnId) (x : Active) (nodes : List Node
     -- put
 
     pub may_put_here : (IsAt Drawn s t ⊎ IsAt Installing s t) → HoldsLockAt s t a → MayPut (plain_of old) t a x.write_stamp
-    may_put_here going has = subst (λ (z : Plain × ℕ). MayPut z.0 t a z.1) (λ i. (sym here i, sym at.active.write_stamp i)) (has.0, has.1, has.2, has.3, has.4, bound) where
+    may_put_here going has = subst (λ (z : NodeState × ℕ). MayPut z.0 t a z.1) (λ i. (sym here i, sym at.active.write_stamp i)) (has.0, has.1, has.2, has.3, has.4, bound) where
       is_open : y.is_open ≡ true
       is_open = ⊎_elim (λ z. z.0) (λ z. z.0) going
 
@@ -279,14 +281,14 @@ module _ (s : State) (r : Reached s) (t : TxnId) (x : Active) (nodes : List Node
         later : State
         later = moving t (with_locked a) (adding (home s a) e s)
 
-      fault_gives : (fault : LockFault) (why : CheckFault) → lock_fault fault ≡ Ok why → Gives (plain_of old) (lock_entry t a x.read_stamp copy (Err fault)) (plain_of v)
+      fault_gives : (fault : LockFault) (why : CheckFault) → lock_fault fault ≡ Ok why → AddsIfMade (plain_of old) (lock_entry t a x.read_stamp copy (Err fault)) (plain_of v)
           → Adds (plain_of old) (LockEntry t a x.read_stamp copy (Err why)) (plain_of v)
       fault_gives (LockHeld by) why is gives = subst (λ (w : Result CheckFault Memory). elim w as (λ _. Type 0) [ Ok f ↦ Adds (plain_of old) (LockEntry t a x.read_stamp copy (Err f)) (plain_of v) | Err m ↦ Unit {0} ]) is gives
       fault_gives (LockChanged seen now) why is gives = subst (λ (w : Result CheckFault Memory). elim w as (λ _. Type 0) [ Ok f ↦ Adds (plain_of old) (LockEntry t a x.read_stamp copy (Err f)) (plain_of v) | Err m ↦ Unit {0} ]) is gives
       fault_gives NoLockMemory why is gives = absurd (cc)
 
       pub lock_refused : (z : Active) (fault : LockFault) (why : CheckFault) (answer : Answer) → lock_fault fault ≡ Ok why → answer ≡ fault_answer why
-          → Gives (plain_of old) (lock_entry t a x.read_stamp copy (Err fault)) (plain_of v) → stage_of z.phase ≡ Refused
+          → AddsIfMade (plain_of old) (lock_entry t a x.read_stamp copy (Err fault)) (plain_of v) → stage_of z.phase ≡ Refused
           → (z.read_stamp ≡ x.read_stamp) × (z.write_stamp ≡ x.write_stamp) → read_set z.reads ≡ read_set x.reads → z.locked.items ≡ x.locked.items
           → Acted t s (Lock t a new) (Ok answer) (λ later. At z (set nodes n v) t later × (later.clock ≡ s.clock))
       lock_refused z fault why answer is says gives stage stamps sets locked = (
@@ -304,12 +306,12 @@ module _ (s : State) (r : Reached s) (t : TxnId) (x : Active) (nodes : List Node
         adds : Adds (plain_of old) (LockEntry t a x.read_stamp copy (Err why)) (plain_of v)
         adds = fault_gives fault why is gives
 
-      no_lock_memory : (fault : LockFault) (m : Memory) → lock_fault fault ≡ Err m → Gives (plain_of old) (lock_entry t a x.read_stamp copy (Err fault)) (plain_of v) → plain_of v ≡ plain_of old
+      no_lock_memory : (fault : LockFault) (m : Memory) → lock_fault fault ≡ Err m → AddsIfMade (plain_of old) (lock_entry t a x.read_stamp copy (Err fault)) (plain_of v) → plain_of v ≡ plain_of old
       no_lock_memory (LockHeld by) m is gives = absurd (cc)
       no_lock_memory (LockChanged seen now) m is gives = absurd (cc)
       no_lock_memory NoLockMemory m is same = same
 
-      pub lock_failed : (z : Active) (fault : LockFault) (m : Memory) → lock_fault fault ≡ Err m → Gives (plain_of old) (lock_entry t a x.read_stamp copy (Err fault)) (plain_of v)
+      pub lock_failed : (z : Active) (fault : LockFault) (m : Memory) → lock_fault fault ≡ Err m → AddsIfMade (plain_of old) (lock_entry t a x.read_stamp copy (Err fault)) (plain_of v)
           → z.phase ≡ x.phase → (z.read_stamp ≡ x.read_stamp) × (z.write_stamp ≡ x.write_stamp) → read_set z.reads ≡ read_set x.reads → z.locked.items ≡ x.locked.items
           → At z (set nodes n v) t s × (s.clock ≡ s.clock)
       lock_failed z fault m is gives phases stamps sets locked = (
@@ -333,7 +335,7 @@ module _ (s : State) (r : Reached s) (t : TxnId) (x : Active) (nodes : List Node
             → result ≡ read_answer y.read_stamp ((node_of s a).cells a)
         read_due result adds = adds.fits.2 ∙ (λ i. read_answer (at.active.read_stamp i) ((here i).cells a))
 
-        pub read_found : (reads : Reads) (found : Found) (answer : Answer) → answer ≡ found_answer found → read_set reads ≡ reading a (read_set x.reads)
+        pub read_found : (reads : ReadMarks) (found : Found) (answer : Answer) → answer ≡ found_answer found → read_set reads ≡ reading a (read_set x.reads)
             → Adds (plain_of old) (ReadEntry t.actor a x.read_stamp (Ok found)) (plain_of v)
             → Acted t s (Read t a) (Ok answer) (λ later. At (record x { reads = reads }) (set nodes n v) t later × (later.clock ≡ s.clock))
         read_found reads found answer says sets adds = (
@@ -348,13 +350,13 @@ module _ (s : State) (r : Reached s) (t : TxnId) (x : Active) (nodes : List Node
           later : State
           later = moving t (with_read a) (adding (home s a) e s)
 
-        held_gives : (fault : ReadFault) (by : TxnId) → read_fault fault ≡ Ok by → Gives (plain_of old) (read_entry t.actor a x.read_stamp (Err fault)) (plain_of v)
+        held_gives : (fault : ReadFault) (by : TxnId) → read_fault fault ≡ Ok by → AddsIfMade (plain_of old) (read_entry t.actor a x.read_stamp (Err fault)) (plain_of v)
             → Adds (plain_of old) (ReadEntry t.actor a x.read_stamp (Err by)) (plain_of v)
         held_gives (ReadHeld who) by is gives = subst (λ (w : Result TxnId Memory). elim w as (λ _. Type 0) [ Ok u ↦ Adds (plain_of old) (ReadEntry t.actor a x.read_stamp (Err u)) (plain_of v) | Err m ↦ Unit {0} ]) is gives
         held_gives NoReadMemory by is gives = absurd (cc)
 
-        pub read_held : (reads : Reads) (fault : ReadFault) (by : TxnId) → read_fault fault ≡ Ok by → read_set reads ≡ read_set x.reads
-            → Gives (plain_of old) (read_entry t.actor a x.read_stamp (Err fault)) (plain_of v)
+        pub read_held : (reads : ReadMarks) (fault : ReadFault) (by : TxnId) → read_fault fault ≡ Ok by → read_set reads ≡ read_set x.reads
+            → AddsIfMade (plain_of old) (read_entry t.actor a x.read_stamp (Err fault)) (plain_of v)
             → Acted t s (Read t a) (Ok (HeldBack by)) (λ later. At (record x { reads = reads }) (set nodes n v) t later × (later.clock ≡ s.clock))
         read_held reads fault by is sets gives = (
           adding (home s a) e s,
@@ -373,12 +375,12 @@ module _ (s : State) (r : Reached s) (t : TxnId) (x : Active) (nodes : List Node
           adds : Adds (plain_of old) (ReadEntry t.actor a x.read_stamp (Err by)) (plain_of v)
           adds = held_gives fault by is gives
 
-        no_read_memory : (fault : ReadFault) (m : Memory) → read_fault fault ≡ Err m → Gives (plain_of old) (read_entry t.actor a x.read_stamp (Err fault)) (plain_of v) → plain_of v ≡ plain_of old
+        no_read_memory : (fault : ReadFault) (m : Memory) → read_fault fault ≡ Err m → AddsIfMade (plain_of old) (read_entry t.actor a x.read_stamp (Err fault)) (plain_of v) → plain_of v ≡ plain_of old
         no_read_memory (ReadHeld who) m is gives = absurd (cc)
         no_read_memory NoReadMemory m is same = same
 
-        pub read_failed : (reads : Reads) (fault : ReadFault) (m : Memory) → read_fault fault ≡ Err m → read_set reads ≡ read_set x.reads
-            → Gives (plain_of old) (read_entry t.actor a x.read_stamp (Err fault)) (plain_of v)
+        pub read_failed : (reads : ReadMarks) (fault : ReadFault) (m : Memory) → read_fault fault ≡ Err m → read_set reads ≡ read_set x.reads
+            → AddsIfMade (plain_of old) (read_entry t.actor a x.read_stamp (Err fault)) (plain_of v)
             → At (record x { reads = reads }) (set nodes n v) t s × (s.clock ≡ s.clock)
         read_failed reads fault m is sets gives = (
           record {
@@ -407,7 +409,7 @@ module _ (s : State) (r : Reached s) (t : TxnId) (x : Active) (nodes : List Node
         → Acted t s (Alloc t n bytes) (Ok (Placed placed.at placed.bound)) (λ later. At z (set nodes n v) t later × (later.clock ≡ s.clock))
     alloc_placed z placed adds like sets more = (
       later,
-      inl (placed.at, subst (λ (p : Plain). LeastFree (occupancy p) placed.at) given_is adds.fits.2, (ap (Placed placed.at) bound_is, refl)),
+      inl (placed.at, subst (λ (p : NodeState). LeastFree (occupancy p) placed.at) given_is adds.fits.2, (ap (Placed placed.at) bound_is, refl)),
       aside_moved s g t n e is_node (with_locked placed.at) (λ u b takes. takes.0),
       (
         at_moved s g t n e is_node (with_locked placed.at) z (set nodes n v) (nodes_written s g nodes at.nodes_stand n d v is_node e adds_it) (open_locked x y at.active placed.at z like sets more)
@@ -435,7 +437,7 @@ module _ (s : State) (r : Reached s) (t : TxnId) (x : Active) (nodes : List Node
         → Acted t s (Alloc t n bytes) (Ok Spent) (λ later. At z (set nodes n v) t later × (later.clock ≡ s.clock))
     alloc_spent z still spent stage stamps sets locked = (
       moving t (in_stage Refused) s,
-      inr (subst (λ (p : Plain). IsSpent (occupancy p)) given_is spent, (refl, refl)),
+      inr (subst (λ (p : NodeState). IsSpent (occupancy p)) given_is spent, (refl, refl)),
       aside_still s g t (in_stage Refused),
       (
         at_still s g t (in_stage Refused) z (set nodes n v) (nodes_kept s g nodes at.nodes_stand n d v is_node still) (open_like x y at.active z Refused stage stamps sets locked)

@@ -7,7 +7,7 @@ use Rattle.farm_node.proofs.Addresses.{addr_eq, same_self}
 use Rattle.farm_core.specs.declared.active.Phase.{Phase}
 use Rattle.farm_core.specs.declared.active.Phase.TheVariants as phase
 use Rattle.farm_core.specs.declared.active.Active.{Active}
-use Rattle.farm_core.specs.declared.reads.Reads.{Reads}
+use Rattle.farm_core.specs.declared.reads.ReadMarks.{ReadMarks}
 use Rattle.farm_core.specs.Machine.{Stage, Transaction, in_stage, drawn_at, with_read, with_locked, with_same, with_addr}
 use Rattle.farm_core.specs.ReadSet.{ReadSet, without_addr, reading, checked}
 use Rattle.farm_core.specs.ReadSets.{read_set}
@@ -83,7 +83,7 @@ module _ (x : Active) (y : Transaction) (o : StandsOpen x y) where
           sym (ap (λ (l : Bool). not (l || y.is_same b)) unlocked ∙ ap not other)
       by false is = refl
 
-    pub open_read : (r : Reads) → y.had_locked a ≡ false → y.is_same a ≡ false → read_set r ≡ reading a (read_set x.reads) → StandsOpen (record x { reads = r }) (with_read a y)
+    pub open_read : (r : ReadMarks) → y.had_locked a ≡ false → y.is_same a ≡ false → read_set r ≡ reading a (read_set x.reads) → StandsOpen (record x { reads = r }) (with_read a y)
     open_read r free new is = record {
       is_open = o.is_open;
       stage = o.stage;
@@ -102,7 +102,7 @@ module _ (x : Active) (y : Transaction) (o : StandsOpen x y) where
       by true false l = refl
       by false r l = refl
 
-    pub open_same : (r : Reads) → read_set r ≡ checked a (read_set x.reads) → StandsOpen (record x { reads = r }) (with_same a y)
+    pub open_same : (r : ReadMarks) → read_set r ≡ checked a (read_set x.reads) → StandsOpen (record x { reads = r }) (with_same a y)
     open_same r is = record {
       is_open = o.is_open;
       stage = o.stage;

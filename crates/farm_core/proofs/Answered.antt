@@ -1,12 +1,13 @@
 -- What a read was answered is in its node's list, and stands.
 use Rattle.std.proofs.Common.{◌≡◌, ◌≢◌, ℕ, ◌<◌, ◌≤◌, ◌%◌, Bool, false, cond, List, [], ◌∷◌, ◌++◌, Option, Some, None, Result, Ok, Err, sym, ap, ◌∙◌, subst, ⊎_elim, append_assoc}
+use Rattle.a1_base.specs.declared.limits.TheConstants.{NODE_LIMIT}
 use Rattle.a1_base.specs.declared.place.Addr.{Addr}
 use Rattle.a1_base.specs.declared.place.TxnId.{TxnId}
 use Rattle.farm_node.specs.declared.entry.Found.{Found}
 use Rattle.farm_node.specs.declared.entry.Entry.{Entry}
 use Rattle.farm_node.specs.declared.entry.Entry.TheVariants.{Read as ReadEntry}
 use Rattle.farm_node.specs.Cell.{Bytes, read_answer}
-use Rattle.farm_node.specs.Story.{seen}
+use Rattle.farm_node.specs.Story.{stamped_bytes}
 use Rattle.farm_node.proofs.Sound.{txn_self}
 use Rattle.farm_core.specs.declared.event.Event.{Event}
 use Rattle.farm_core.specs.declared.event.Event.TheVariants.{Read}
@@ -77,11 +78,11 @@ later_stands s d t a x grows g entered =
     let e : Entry = ReadEntry t.actor a (s.transactions t).read_stamp (Ok entered.found) in
     let is : log_of d a ≡ entered.before ++ e ∷ more.0 =
     ap (λ (n : ℕ). d.logs (a.region % n)) grows.nodes ∙ (more.1 ∙ (ap (λ (log : List Entry). log ++ more.0) entered.is ∙ append_assoc entered.before (e ∷ []) more.0)) in
-    let stands : ValueStands (log_of d a) a (s.transactions t).read_stamp (seen entered.found) =
+    let stands : ValueStands (log_of d a) a (s.transactions t).read_stamp (stamped_bytes entered.found) =
     entered_stands (log_of d a) t.actor (s.transactions t).read_stamp a entered.found entered.before more.0 (g.base.lists (home d a) (home_low d a g.base.count.0)).lawful is in
     subst (λ (y : Answer). AnswerStands d (Read t a) y) (sym entered.answer)
     (value_stands d t a entered.found.stamp entered.found.value
-    (subst (λ (r : ℕ). ValueStands (log_of d a) a r (seen entered.found)) (sym (grows.begun t entered.begun).1) stands))
+    (subst (λ (r : ℕ). ValueStands (log_of d a) a r (stamped_bytes entered.found)) (sym (grows.begun t entered.begun).1) stands))
 
 grows_runs : (events : List Event) (s : State) (answers : List Answer) (end : State) → Good s → s.loading ≡ false → Runs s events answers end → Grows s end
 grows_runs [] s [] end g going runs = subst (λ (z : State). Grows s z) (sym runs) (grows_self s going)
@@ -109,7 +110,7 @@ each_answer (e ∷ es) s (x ∷ xs) end g good runs =
     let next : Good step.0 = good_step s e x step.0 g runs.0 step.1 in
     (answer_stands s step.0 end e x g good step.1 (λ going. grows_runs es step.0 xs end next going step.2), each_answer es step.0 xs end next good step.2)
 
-pub reads_stand : (nodes : ℕ) (events : List Event) (answers : List Answer) (s : State) → 0 < nodes → nodes ≤ 16 → Runs (fresh nodes) events answers s → ReadsWhole events answers s
+pub reads_stand : (nodes : ℕ) (events : List Event) (answers : List Answer) (s : State) → 0 < nodes → nodes ≤ NODE_LIMIT → Runs (fresh nodes) events answers s → ReadsWhole events answers s
 reads_stand nodes events answers s low high runs =
     let g : Good s = good_run nodes events answers s low high runs in
     record {

@@ -2,6 +2,7 @@
 use Rattle.std.proofs.Common.{◌≡◌, ℕ, ◌+◌, ◌<◌, ◌≤◌, max, eqb, cond, Bool, true, false, not, is_some, List, length, get_or, Option, Some, None, Ok, sym, refl, ap, ◌∙◌, subst, inl, inr, arith}
 use Rattle.std.proofs.Math.ListN.{set, length-set}
 use Rattle.std.proofs.lemmas.Bool.{and_parts, and_from, both_ways, eqb-true, eq-eqb, ne_eqb}
+use Rattle.a1_base.specs.declared.limits.TheConstants.{ACTOR_LIMIT}
 use Rattle.a1_base.specs.declared.place.Addr.{Addr}
 use Rattle.a1_base.specs.declared.place.TxnId.{TxnId}
 use Rattle.farm_node.specs.declared.hold.Hold.{Hold}
@@ -9,7 +10,8 @@ use Rattle.farm_node.specs.declared.node.Node.{Node}
 use Rattle.farm_node.specs.declared.entry.Entry.{Entry}
 use Rattle.farm_node.specs.declared.entry.Entry.TheVariants.{Open as OpenEntry}
 use Rattle.farm_node.specs.Cell.{Cell}
-use Rattle.farm_node.specs.Plain.{IsStamp, Plain, Adds}
+use Rattle.farm_node.specs.NodeState.{NodeState, Adds}
+use Rattle.a1_base.specs.Stamps.{IsStamp}
 use Rattle.farm_node.specs.Story.{story}
 use Rattle.farm_core.specs.declared.event.Event.TheVariants.{Begin}
 use Rattle.farm_core.specs.declared.event.Answer.TheVariants.{At as Begun, No}
@@ -66,9 +68,9 @@ module _ (farm : Farm) (s : State) (st : Stands farm s) (t : TxnId) (actor : IsA
       let number : length nodes ≡ s.nodes = ap length same ∙ st.nodes_stand.number in
       let less : n < s.nodes = omega arith in
       let is : plains nodes n ≡ node_at s n = ap (λ (ns : List Node). plains ns n) same ∙ st.nodes_stand.each n less in
-      let actors : (node_at s n).actors ≡ 35 = (g.base.lists n less).actors in
-      let high : t.actor ≤ 35 = actor.1 in
-      (subst (λ (p : Plain). t.actor ≤ p.actors) (sym is) (omega arith), ap (λ (p : Plain). p.pins t.actor) is ∙ g.pins.none_at t.actor n less none)
+      let actors : (node_at s n).actors ≡ ACTOR_LIMIT = (g.base.lists n less).actors in
+      let high : t.actor ≤ ACTOR_LIMIT = actor.1 in
+      (subst (λ (p : NodeState). t.actor ≤ p.actors) (sym is) (omega arith), ap (λ (p : NodeState). p.pins t.actor) is ∙ g.pins.none_at t.actor n less none)
 
   module _ (meets : Meets s (Begin t)) where
     abbrev entry : Entry
@@ -120,7 +122,7 @@ module _ (farm : Farm) (s : State) (st : Stands farm s) (t : TxnId) (actor : IsA
         nodes_stand = subst (λ (ns : List Node). NodesStand ns begun.nodes begun.logs) (sym nodes_are)
             (each_added s g entry farm.nodes.items later st.nodes_stand (number ∙ ap length same) (adds_entry nodes later same adds));
         count = ap length slots_are ∙ (length-set farm.slots.items t.actor _ ∙ st.count);
-        slots_stand = subst (λ (all : List Slot). (k : ℕ) (d : Slot) → 0 < k → k ≤ 35 → SlotStands (get_or all k d) k begun) (sym slots_are)
+        slots_stand = subst (λ (all : List Slot). (k : ℕ) (d : Slot) → 0 < k → k ≤ ACTOR_LIMIT → SlotStands (get_or all k d) k begun) (sym slots_are)
             (slots_after farm s st t actor (record { begins = t.number; «open» = Some x }) begun (own_slot x (subst (λ (n : ℕ). StandsOpen x (begun_at n)) st.clock_is open_now))
             (λ k old differ was. slot_kept old k s begun (ap (λ (b : Bool). cond b (s.begins k + 1) (s.begins k)) (ne_eqb t.actor k differ))
             (λ u is. other_stays t u (begun_at s.clock) s.transactions (another t u k differ is)) (λ u a is. held_none u a) was));

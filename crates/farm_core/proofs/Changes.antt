@@ -11,7 +11,7 @@ use Rattle.farm_node.specs.declared.node.Node.{Node}
 use Rattle.farm_node.specs.declared.entry.Entry.{Entry}
 use Rattle.farm_node.specs.declared.entry.Entry.TheVariants.{Made, Open, Shut, Read, Alloc, Lock, Check, Put, Unlock, Collect}
 use Rattle.farm_node.specs.Cell.{Bytes, Cell, same_txn, raised_to, locked_by, installed, released, goes, collected}
-use Rattle.farm_node.specs.Plain.{Plain, HeldBy, Adds, set_cell, new_floor, after, replay}
+use Rattle.farm_node.specs.NodeState.{NodeState, HeldBy, Adds, set_cell, new_floor, after, replay}
 use Rattle.farm_node.specs.Node.{plain_of}
 use Rattle.farm_node.proofs.Addresses.{addr_eq}
 use Rattle.farm_node.proofs.Sound.{txn_self}
@@ -33,7 +33,7 @@ Takes u a (Alloc t r v placed) = (t ≡ u) × (placed.at ≡ a)
 Takes u a (Lock t b r new (Ok given)) = (t ≡ u) × (b ≡ a)
 Takes u a e = ⊥
 
-pub held_holds : (p : Plain) (t : TxnId) (a : Addr) → HeldBy p t a → Holds t (p.cells a)
+pub held_holds : (p : NodeState) (t : TxnId) (a : Addr) → HeldBy p t a → Holds t (p.cells a)
 held_holds p t a held = subst (λ (c : Option Cell). Holds t c) (sym held.2) (subst (λ (l : Option Hold). HasLock t l) (sym held.3) held.4)
 
 module _ (u : TxnId) where
@@ -75,7 +75,7 @@ module _ (u : TxnId) where
     by true holds = absurd holds
     by false holds = holds
 
-  holds_after : (p : Plain) (e : Entry) (a : Addr) → Holds u ((after p e).cells a) → Holds u (p.cells a) ⊎ Takes u a e
+  holds_after : (p : NodeState) (e : Entry) (a : Addr) → Holds u ((after p e).cells a) → Holds u (p.cells a) ⊎ Takes u a e
   holds_after p (Made m) a holds = inl holds
   holds_after p (Open k c x) a holds = inl holds
   holds_after p (Shut k) a holds = inl holds
@@ -90,7 +90,7 @@ module _ (u : TxnId) where
   holds_after p (Unlock t b) a holds = inl (kept_set b a (released (p.cells b)) p.cells (holds_released (p.cells b) (p.cells b)) holds)
   holds_after p (Collect k f removed) a holds = inl (holds_collected (new_floor p f) (p.cells a) holds)
 
-  pub held_after : (p : Plain) (e : Entry) (a : Addr) → HeldBy (after p e) u a → HeldBy p u a ⊎ Takes u a e
+  pub held_after : (p : NodeState) (e : Entry) (a : Addr) → HeldBy (after p e) u a → HeldBy p u a ⊎ Takes u a e
   held_after p e a held = ⊎_elim (λ holds. inl (holds_held p u a holds)) (λ takes. inr takes) (holds_after p e a (held_holds (after p e) u a held))
 
 pub self_moved : (t : TxnId) (x : Transaction) (transactions : TxnId → Transaction) → set_transaction t x transactions t ≡ x
@@ -111,7 +111,7 @@ module _ (s : State) (g : Good s) where
       (λ is held. ⊎_elim
       (λ before. inl (subst (λ (m : ℕ). HeldBy (node_at s m) u a) is before))
       (λ takes. inr takes)
-      (held_after u (node_at s n) e a (subst (λ (p : Plain). HeldBy p u a) (node_added n e less) held)))
+      (held_after u (node_at s n) e a (subst (λ (p : NodeState). HeldBy p u a) (node_added n e less) held)))
       (λ held. inl held)
 
   module _ (nodes : List Node) (stand : NodesStand nodes s.nodes s.logs) (n : ℕ) (d v : Node) (less : n < s.nodes) where
@@ -126,7 +126,7 @@ module _ (s : State) (g : Good s) where
       by : (m : ℕ) → m < s.nodes → (b : Bool) → eqb n m ≡ b → plains (set nodes n v) m ≡ replay (cond b (s.logs n ++ e ∷ []) (s.logs m))
       by m lower true is =
           let same : n ≡ m = eqb-true n m is in
-          ap (plains (set nodes n v)) (sym same) ∙ (plains_set nodes n v low ∙ (adds.state ∙ (ap (λ (p : Plain). after p e) old_is ∙ sym (node_added n e less))))
+          ap (plains (set nodes n v)) (sym same) ∙ (plains_set nodes n v low ∙ (adds.state ∙ (ap (λ (p : NodeState). after p e) old_is ∙ sym (node_added n e less))))
       by m lower false is = plains_other nodes n m v (eqb-false n m is) ∙ stand.each m lower
 
     pub nodes_kept : plain_of v ≡ plain_of (get_or nodes n d) → NodesStand (set nodes n v) s.nodes s.logs

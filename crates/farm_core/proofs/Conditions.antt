@@ -4,7 +4,7 @@ use Rattle.std.proofs.lemmas.Bool.{and_parts, and_from, not-true, or_cases, both
 use Rattle.a1_base.specs.declared.place.Addr.{Addr}
 use Rattle.a1_base.specs.declared.place.TxnId.{TxnId}
 use Rattle.farm_node.specs.declared.node.Node.{Node}
-use Rattle.farm_node.specs.Plain.{Plain}
+use Rattle.farm_node.specs.NodeState.{NodeState}
 use Rattle.farm_node.specs.State.{holds_there, may_lock}
 use Rattle.farm_node.specs.Story.{story}
 use Rattle.farm_node.proofs.Addresses.{same_self}
@@ -87,10 +87,10 @@ module _ (s : State) (r : Reached s) (t : TxnId) (x : Active) (nodes : List Node
   plain_is a = ap (λ (k : ℕ). plains nodes (a.region % k)) at.nodes_stand.number ∙ at.nodes_stand.each (home s a) (less_home s g a)
 
   pub holds_to : (a : Addr) → holds_at nodes t a ≡ true → HoldsLockAt s t a
-  holds_to a is = (holds_iff (node_of s a) t a).0 (ap (λ (p : Plain). holds_there t (p.cells a)) (sym (plain_is a)) ∙ is)
+  holds_to a is = (holds_iff (node_of s a) t a).0 (ap (λ (p : NodeState). holds_there t (p.cells a)) (sym (plain_is a)) ∙ is)
 
   pub holds_from : (a : Addr) → HoldsLockAt s t a → holds_at nodes t a ≡ true
-  holds_from a held = ap (λ (p : Plain). holds_there t (p.cells a)) (plain_is a) ∙ (holds_iff (node_of s a) t a).1 held
+  holds_from a held = ap (λ (p : NodeState). holds_there t (p.cells a)) (plain_is a) ∙ (holds_iff (node_of s a) t a).1 held
 
   free_to : (a : Addr) → not (holds_at nodes t a) ≡ true → HoldsLockAt s t a → ⊥
   free_to a is held = both_ways (holds_at nodes t a) (not-true (holds_at nodes t a) is) (holds_from a held)

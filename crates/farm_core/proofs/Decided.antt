@@ -1,15 +1,17 @@
 -- A state and an event have one answer.
 use Rattle.std.proofs.Common.{◌≡◌, ◌⊎◌, inl, inr, ◌∙◌, ℕ, ◌+◌, ◌-◌, ◌*◌, ◌^◌, ◌<◌, List, [], ◌∷◌, Option, Result, Ok, Err, true, false, refl, sym, subst, arith, ⊎_elim}
 use Rattle.std.specs.Prelude.{max}
+use Rattle.a1_base.specs.declared.limits.TheConstants.{LAST_STAMP}
 use Rattle.a1_base.specs.declared.place.Addr.{Addr}
 use Rattle.a1_base.specs.declared.place.TxnId.{TxnId}
-use Rattle.object_region.specs.Occupancy.{In, Occupancy, LeastOfMade, FirstOfNext, LeastFree, IsSpent}
+use Rattle.object_region.specs.Occupancy.{Occupancy, LeastOfMade, FirstOfNext, LeastFree, IsSpent}
+use Rattle.a1_base.specs.Lists.{IsAmong}
 use Rattle.farm_node.specs.declared.entry.Found.{Found}
 use Rattle.farm_node.specs.declared.entry.Locked.{Locked as LockGiven}
 use Rattle.farm_node.specs.declared.entry.CheckFault.{CheckFault}
 use Rattle.farm_node.specs.declared.entry.Entry.TheVariants.{Alloc as AllocEntry}
 use Rattle.farm_node.specs.Cell.{Bytes, read_answer, lock_answer, check_answer}
-use Rattle.farm_node.specs.Plain.{occupancy}
+use Rattle.farm_node.specs.NodeState.{occupancy}
 use Rattle.farm_core.specs.declared.event.Event.{Event}
 use Rattle.farm_core.specs.declared.event.Event.TheVariants.{Load, Begin, Read, Alloc, Lock, Draw, Check, Put, Unlock, Shut, Collect}
 use Rattle.farm_core.specs.declared.event.Answer.{Answer}
@@ -43,7 +45,7 @@ next_before : (o : Occupancy) (a b : Addr) → LeastFree o a → FirstOfNext o a
 next_before o a b x next_a next_b less =
     let k = x.place.0.0 in
     let is : a.region ≡ o.node + k * o.nodes = x.place.0.2 in
-    next_a.not_made (subst (λ n. In n o.regions) (sym is) (next_b.lower_made k (subst (λ n. n < b.region) is less)))
+    next_a.not_made (subst (λ n. IsAmong n o.regions) (sym is) (next_b.lower_made k (subst (λ n. n < b.region) is less)))
 
 both_next : (o : Occupancy) (a b : Addr) → LeastFree o a → FirstOfNext o a → LeastFree o b → FirstOfNext o b → a ≡ b
 both_next o a b x next_a y next_b =
@@ -79,8 +81,8 @@ checks_one s t a r w (Err fault) x next y other g h = gives_one _ _ x next y oth
 draws_one : (s : State) (t : TxnId) (x : Answer) (next : State) (y : Answer) (other : State) → Draws s t x next → Draws s t y other → Same x next y other
 draws_one s t x next y other g h =
     ⊎_elim
-    (λ low. ⊎_elim (λ low2. gives_one _ _ x next y other low.1 low2.1) (λ full. absurd (let e : s.clock ≡ 2 ^ 62 - 1 = full.0 in let l : s.clock < 2 ^ 62 - 1 = low.0 in omega arith)) h)
-    (λ full. ⊎_elim (λ low. absurd (let e : s.clock ≡ 2 ^ 62 - 1 = full.0 in let l : s.clock < 2 ^ 62 - 1 = low.0 in omega arith)) (λ full2. gives_one _ _ x next y other full.1 full2.1) h)
+    (λ low. ⊎_elim (λ low2. gives_one _ _ x next y other low.1 low2.1) (λ full. absurd (let e : s.clock ≡ LAST_STAMP = full.0 in let l : s.clock < LAST_STAMP = low.0 in omega arith)) h)
+    (λ full. ⊎_elim (λ low. absurd (let e : s.clock ≡ LAST_STAMP = full.0 in let l : s.clock < LAST_STAMP = low.0 in omega arith)) (λ full2. gives_one _ _ x next y other full.1 full2.1) h)
     g
 
 free_not_spent : {A : Type 0} (o : Occupancy) (a : Addr) → LeastFree o a → IsSpent o → A

@@ -4,12 +4,12 @@ use Rattle.std.proofs.Math.ListN.{set}
 use Rattle.std.proofs.lemmas.Bool.{eqb-true, eqb-false}
 use Rattle.farm_node.specs.declared.node.Node.{Node}
 use Rattle.farm_node.specs.declared.entry.Entry.{Entry}
-use Rattle.farm_node.specs.Plain.{Plain, Adds}
+use Rattle.farm_node.specs.NodeState.{NodeState, Adds}
 use Rattle.farm_node.specs.Node.{plain_of}
 use Rattle.farm_core.specs.Standing.{plains}
 use Rattle.farm_core.proofs.NodeLists.{plains_index, plains_set, plains_other}
 
-module _ (first nodes : List Node) (i : ℕ) (low : i < length nodes) (d v : Node) (entry : Plain → Entry) (rest : (n : ℕ) → i ≤ n → plains nodes n ≡ plains first n) where
+module _ (first nodes : List Node) (i : ℕ) (low : i < length nodes) (d v : Node) (entry : NodeState → Entry) (rest : (n : ℕ) → i ≤ n → plains nodes n ≡ plains first n) where
   pub next_is : plain_of (get_or nodes i d) ≡ plains first i
   next_is = plains_index nodes i d low ∙ rest i (omega arith)
 
@@ -23,8 +23,8 @@ module _ (first nodes : List Node) (i : ℕ) (low : i < length nodes) (d v : Nod
     by true is =
         let same : i ≡ n = eqb-true i n is in
         subst (λ (m : ℕ). Adds (plains first m) (entry (plains first m)) (plains (set nodes i v) m)) same
-        (subst (λ (z : Plain × Plain). Adds z.0 (entry z.0) z.1) (λ j. (next_is j, sym (plains_set nodes i v low) j)) adds)
+        (subst (λ (z : NodeState × NodeState). Adds z.0 (entry z.0) z.1) (λ j. (next_is j, sym (plains_set nodes i v low) j)) adds)
     by false is =
         let differ : i ≢ n = eqb-false i n is in
         let before : n < i = omega arith in
-        subst (λ (p : Plain). Adds (plains first n) (entry (plains first n)) p) (sym (plains_other nodes i n v differ)) (done n before)
+        subst (λ (p : NodeState). Adds (plains first n) (entry (plains first n)) p) (sym (plains_other nodes i n v differ)) (done n before)

@@ -2,13 +2,14 @@
 use Rattle.std.proofs.Common.{◌≡◌, ◌≢◌, ◌↔◌, ℕ, ◌-◌, ◌<◌, ◌≤◌, option_to_list, cond, Bool, true, false, List, [], ◌∷◌, ◌++◌, length, get_or, Option, Some, None, Ok, IsTrue, sym, refl, ap, ◌∙◌, subst, inl, inr, ⊎_elim, arith}
 use Rattle.std.proofs.Math.ListN.{set, length-set}
 use Rattle.std.proofs.lemmas.Bool.{both_ways}
+use Rattle.a1_base.specs.declared.limits.TheConstants.{ACTOR_LIMIT}
 use Rattle.a1_base.specs.declared.place.Addr.{Addr}
 use Rattle.a1_base.specs.declared.place.TxnId.{TxnId}
 use Rattle.farm_node.specs.declared.node.Node.{Node}
 use Rattle.farm_node.specs.declared.entry.Entry.{Entry}
 use Rattle.farm_node.specs.declared.entry.Entry.TheVariants.{Shut as ShutEntry}
 use Rattle.farm_node.specs.Cell.{same_txn}
-use Rattle.farm_node.specs.Plain.{Plain, Adds}
+use Rattle.farm_node.specs.NodeState.{NodeState, Adds}
 use Rattle.farm_node.proofs.Sound.{txn_self}
 use Rattle.farm_core.specs.declared.event.Event.TheVariants.{Shut}
 use Rattle.farm_core.specs.declared.event.Answer.TheVariants.{Shut as Ended, No}
@@ -120,7 +121,7 @@ module _ (farm : Farm) (s : State) (st : Stands farm s) (t : TxnId) (actor : IsA
       loading_is = loading_is ∙ st.loading_is;
       nodes_stand = subst (λ (ns : List Node). NodesStand ns s.nodes s.logs) (sym nodes_are) st.nodes_stand;
       count = ap length slots_are ∙ (length-set farm.slots.items t.actor slot ∙ st.count);
-      slots_stand = subst (λ (all : List Slot). (k : ℕ) (d : Slot) → 0 < k → k ≤ 35 → SlotStands (get_or all k d) k s) (sym slots_are)
+      slots_stand = subst (λ (all : List Slot). (k : ℕ) (d : Slot) → 0 < k → k ≤ ACTOR_LIMIT → SlotStands (get_or all k d) k s) (sym slots_are)
           (slots_after farm s st t actor slot s lacks.1.slot_stands (λ k old differ was. was));
     },
   )
@@ -130,7 +131,7 @@ module _ (farm : Farm) (s : State) (st : Stands farm s) (t : TxnId) (actor : IsA
     shut_pins nodes same n low =
         let number : length nodes ≡ s.nodes = ap length same ∙ st.nodes_stand.number in
         let less : n < s.nodes = omega arith in
-        ((s.transactions t).read_stamp, ap (λ (ns : List Node). (plains ns n).pins t.actor) same ∙ (ap (λ (p : Plain). p.pins t.actor) (st.nodes_stand.each n less) ∙ g.pins.open_at t n less meets.0))
+        ((s.transactions t).read_stamp, ap (λ (ns : List Node). (plains ns n).pins t.actor) same ∙ (ap (λ (p : NodeState). p.pins t.actor) (st.nodes_stand.each n less) ∙ g.pins.open_at t n less meets.0))
 
     abbrev entry : Entry
     entry = ShutEntry t.actor
@@ -164,7 +165,7 @@ module _ (farm : Farm) (s : State) (st : Stands farm s) (t : TxnId) (actor : IsA
             (λ n less. let count : length nodes ≡ s.nodes = ap length same ∙ st.nodes_stand.number in
             subst (λ (ns : List Node). Adds (plains ns n) entry (plains after_nodes n)) same (adds n (omega arith))));
         count = ap length slots_are ∙ (length-set farm.slots.items t.actor later ∙ st.count);
-        slots_stand = subst (λ (all : List Slot). (k : ℕ) (d : Slot) → 0 < k → k ≤ 35 → SlotStands (get_or all k d) k shut) (sym slots_are)
+        slots_stand = subst (λ (all : List Slot). (k : ℕ) (d : Slot) → 0 < k → k ≤ ACTOR_LIMIT → SlotStands (get_or all k d) k shut) (sym slots_are)
             (slots_after farm s st t actor later shut own
             (λ k old differ was. slot_kept old k s shut refl (λ u is. other_stays t u (ended (s.transactions t)) s.transactions (another t u k differ is)) (λ u a is held. held_each s g entry u a (λ takes. takes) held) was));
       },

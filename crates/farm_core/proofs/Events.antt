@@ -2,6 +2,7 @@
 use Rattle.std.proofs.Common.{◌≡◌, ◌≢◌, ◌⊎◌, ℕ, ◌+◌, ◌^◌, ◌-◌, ◌*◌, ◌%◌, ◌<◌, ◌≤◌, max, cond, Bool, true, false, ◌||◌, List, [], ◌∷◌, ◌++◌, Option, Some, Result, Ok, Err, sym, refl, ap, ◌∙◌, subst, inl, inr, ⊎_elim, arith}
 use Rattle.std.proofs.lemmas.Bool.{eq-eqb, lt-ltb}
 use Rattle.std.proofs.lemmas.Nat.{mod-mul-add}
+use Rattle.a1_base.specs.declared.limits.TheConstants.{COLLECTOR_ACTOR, LAST_STAMP}
 use Rattle.a1_base.specs.declared.place.Addr.{Addr}
 use Rattle.a1_base.specs.declared.place.TxnId.{TxnId}
 use Rattle.object_region.specs.Occupancy.{same_addr, LeastFree}
@@ -12,7 +13,8 @@ use Rattle.farm_node.specs.declared.entry.CheckFault.{CheckFault}
 use Rattle.farm_node.specs.declared.entry.Entry.{Entry}
 use Rattle.farm_node.specs.declared.entry.Entry.TheVariants.{Read, Alloc, Lock, Check, Put, Unlock, Collect}
 use Rattle.farm_node.specs.Cell.{Bytes, Cell, read_answer, made_by, locked_by, lock_answer, check_answer}
-use Rattle.farm_node.specs.Plain.{IsStamp, Plain, occupancy, PinnedBy, MayLock, FitsLock, FitsCheck, after, replay, collect_answer}
+use Rattle.farm_node.specs.NodeState.{NodeState, occupancy, PinnedBy, MayLock, FitsLock, FitsCheck, after, replay, collect_answer}
+use Rattle.a1_base.specs.Stamps.{IsStamp}
 use Rattle.farm_node.specs.Story.{story}
 use Rattle.farm_node.proofs.Addresses.{addr_eq}
 use Rattle.farm_node.proofs.Sound.{txn_self}
@@ -95,7 +97,7 @@ module _ (s : State) (g : Good s) where
             let more : Good (adding n e s) = good_adding s n e g (started s g t at.0) less tt
             (is_pinned t n less at.0, read_stamp t, free, refl) (g.base.sane t).read (λ u mine. reading_allows t u at mine) in
             let there : (node_at (adding n e s) n).cells a ≡ Some (made_by t bytes (max (node_at s n).past (s.transactions t).read_stamp)) =
-            ap (λ (p : Plain). p.cells a) (grown_node n e less) ∙ set_self a _ (node_at s n).cells in
+            ap (λ (p : NodeState). p.cells a) (grown_node n e less) ∙ set_self a _ (node_at s n).cells in
             good_locked (adding n e s) more t a at.0 at.1
             (subst (λ (m : ℕ). Holds t ((node_at (adding n e s) m).cells a)) (place_home n a less free) (subst (λ (c : Option Cell). Holds t c) (sym there) refl))
 
@@ -110,7 +112,7 @@ module _ (s : State) (g : Good s) where
       let more : Good (adding (home s a) e s) = good_adding s (home s a) e g (started s g t at.0) (less_home a) tt fits tt (λ u mine. reading_allows t u at mine) in
       let ask : Askable t ((node_of s a).cells a) = askable (node_of s a) t a (s.transactions t).read_stamp (Ok given) fits in
       let there : (node_at (adding (home s a) e s) (home s a)).cells a ≡ locked_by t new (Some ask.cell) =
-      ap (λ (p : Plain). p.cells a) (grown_node (home s a) e (less_home a)) ∙ (set_self a _ (node_of s a).cells ∙ ap (locked_by t new) ask.is) in
+      ap (λ (p : NodeState). p.cells a) (grown_node (home s a) e (less_home a)) ∙ (set_self a _ (node_of s a).cells ∙ ap (locked_by t new) ask.is) in
       subst Good (sym acts.1) (good_locked (adding (home s a) e s) more t a at.0 at.1 (subst (λ (c : Option Cell). Holds t c) (sym there) refl))
   good_lock t a new (Err fault) answer next at may due acts =
       let e : Entry = Lock t a (s.transactions t).read_stamp new (Err fault) in
@@ -122,7 +124,7 @@ module _ (s : State) (g : Good s) where
 
   pub good_draw : (t : TxnId) (answer : _) (next : State) → IsAt Reading s t → Draws s t answer next → Good next
   good_draw t answer next at acts = ⊎_elim
-      (λ x. let low : s.clock < 2 ^ 62 - 1 = x.0 in subst Good (sym x.1.1) (good_drawn s g t at.0 at.1 (omega arith)))
+      (λ x. let low : s.clock < LAST_STAMP = x.0 in subst Good (sym x.1.1) (good_drawn s g t at.0 at.1 (omega arith)))
       (λ x. subst Good (sym x.1.1) (good_refused s g t at.0))
       acts
 
@@ -201,6 +203,6 @@ module _ (s : State) (g : Good s) where
 
   pub good_collect : (n : ℕ) (answer : _) (next : State) → n < s.nodes → Collects s n (collect_answer (node_at s n) s.clock) answer next → Good next
   good_collect n answer next less acts =
-      subst Good (sym acts.1) (good_adding (loading_over s) n (Collect 34 s.clock (collect_answer (node_at s n) s.clock))
+      subst Good (sym acts.1) (good_adding (loading_over s) n (Collect COLLECTOR_ACTOR s.clock (collect_answer (node_at s n) s.clock))
       record { base = base_loading_over s g.base; pins = record { open_at = g.pins.open_at; none_at = g.pins.none_at } }
       refl less tt (omega arith, g.base.clock.1, refl) (omega arith) (λ u. tt))

@@ -1,14 +1,15 @@
 -- What the farm stands for after a step.
-use Rattle.std.proofs.Common.{◌≡◌, ◌≢◌, ℕ, ◌<◌, ◌≤◌, eqb, cond, Bool, true, false, List, [], ◌∷◌, ◌++◌, length, get_or, get_or-set_other, get_or-set_same, Option, Some, None, Result, Ok, Err, sym, refl, ap, ◌∙◌, subst, ⊎_elim, arith}
+use Rattle.std.proofs.Common.{◌≡◌, ◌≢◌, ℕ, ◌+◌, ◌<◌, ◌≤◌, eqb, cond, Bool, true, false, List, [], ◌∷◌, ◌++◌, length, get_or, get_or-set_other, get_or-set_same, Option, Some, None, Result, Ok, Err, sym, refl, ap, ◌∙◌, subst, ⊎_elim, arith}
 use Rattle.std.proofs.Math.ListN.{set, length-set}
 use Rattle.std.proofs.lemmas.Bool.{eqb-true, eqb-false, lt-ltb}
+use Rattle.a1_base.specs.declared.limits.TheConstants.{ACTOR_LIMIT}
 use Rattle.a1_base.specs.declared.Memory.{Memory}
 use Rattle.a1_base.specs.declared.place.Addr.{Addr}
 use Rattle.a1_base.specs.declared.place.TxnId.{TxnId}
 use Rattle.farm_node.specs.declared.node.Node.{Node}
 use Rattle.farm_node.specs.declared.entry.Entry.{Entry}
 use Rattle.farm_node.specs.Cell.{same_txn}
-use Rattle.farm_node.specs.Plain.{Plain, HeldBy, Adds, after, replay}
+use Rattle.farm_node.specs.NodeState.{NodeState, HeldBy, Adds, after, replay}
 use Rattle.farm_node.proofs.Sound.{txn_eq}
 use Rattle.farm_core.specs.declared.event.Event.{Event}
 use Rattle.farm_core.specs.declared.event.Event.TheVariants.{Load, Begin, Read, Alloc, Lock, Draw, Check, Put, Unlock, Shut, Collect}
@@ -76,7 +77,7 @@ actor_of nodes t (Collect n) own range = absurd own
 
 module _ (farm : Farm) (s : State) (st : Stands farm s) (t : TxnId) (actor : IsActor t) where
   pub slot_there : t.actor < length farm.slots.items
-  slot_there = let count : length farm.slots.items ≡ 36 = st.count in let high : t.actor ≤ 35 = actor.1 in omega arith
+  slot_there = let count : length farm.slots.items ≡ ACTOR_LIMIT + 1 = st.count in let high : t.actor ≤ ACTOR_LIMIT = actor.1 in omega arith
 
   pub slot_at : (slot : Slot) (nodes : List Node) → slot ≡ get_or farm.slots.items t.actor slot → nodes ≡ farm.nodes.items → SlotAt slot nodes farm.clock t s
   slot_at slot nodes is same = record {
@@ -87,7 +88,7 @@ module _ (farm : Farm) (s : State) (st : Stands farm s) (t : TxnId) (actor : IsA
 
   -- the actor's slot is another, and the others are as they were
   pub slots_after : (slot : Slot) (later : State) → SlotStands slot t.actor later → ((k : ℕ) (old : Slot) → t.actor ≢ k → SlotStands old k s → SlotStands old k later)
-      → (k : ℕ) (d : Slot) → 0 < k → k ≤ 35 → SlotStands (get_or (set farm.slots.items t.actor slot) k d) k later
+      → (k : ℕ) (d : Slot) → 0 < k → k ≤ ACTOR_LIMIT → SlotStands (get_or (set farm.slots.items t.actor slot) k d) k later
   slots_after slot later own kept k d low high = by (eqb t.actor k) refl where
     by : (b : Bool) → eqb t.actor k ≡ b → SlotStands (get_or (set farm.slots.items t.actor slot) k d) k later
     by true is =
@@ -109,7 +110,7 @@ module _ (farm : Farm) (s : State) (st : Stands farm s) (t : TxnId) (actor : IsA
       loading_is = loading_is ∙ (st.loading_is ∙ sym aside.loading);
       nodes_stand = subst (λ (ns : List Node). NodesStand ns later.nodes later.logs) (sym nodes_are) at.nodes_stand;
       count = ap length slots_are ∙ (length-set farm.slots.items t.actor slot ∙ st.count);
-      slots_stand = subst (λ (all : List Slot). (k : ℕ) (d : Slot) → 0 < k → k ≤ 35 → SlotStands (get_or all k d) k later) (sym slots_are)
+      slots_stand = subst (λ (all : List Slot). (k : ℕ) (d : Slot) → 0 < k → k ≤ ACTOR_LIMIT → SlotStands (get_or all k d) k later) (sym slots_are)
           (slots_after slot later at.slot_stands (λ k old differ was. slot_kept old k s later (ap (λ (b : ℕ → ℕ). b k) aside.begins)
           (λ u is. aside.others u (another t u k differ is)) (λ u a is. aside.held u a (another t u k differ is)) was));
     }
@@ -125,7 +126,7 @@ module _ (s : State) (g : Good s) (e : Entry) where
       → NodesStand later s.nodes (adding_to_all e s).logs
   each_added nodes later stand number adds = record {
     number = number ∙ stand.number;
-    each = λ n less. (adds n less).state ∙ (ap (λ (p : Plain). after p e) (stand.each n less)
+    each = λ n less. (adds n less).state ∙ (ap (λ (p : NodeState). after p e) (stand.each n less)
         ∙ (sym (node_added s g n e less) ∙ sym (ap (λ (b : Bool). replay (cond b (s.logs n ++ e ∷ []) (s.logs n))) (lt-ltb n s.nodes less))));
   }
 
@@ -133,4 +134,4 @@ module _ (s : State) (g : Good s) (e : Entry) where
   held_each u a none held =
       let less : home s a < s.nodes = less_home s g a in
       ⊎_elim (λ before. before) (λ takes. absurd (none takes)) (held_after u (node_at s (home s a)) e a
-      (subst (λ (p : Plain). HeldBy p u a) (ap (λ (b : Bool). replay (cond b (s.logs (home s a) ++ e ∷ []) (s.logs (home s a)))) (lt-ltb (home s a) s.nodes less) ∙ node_added s g (home s a) e less) held))
+      (subst (λ (p : NodeState). HeldBy p u a) (ap (λ (b : Bool). replay (cond b (s.logs (home s a) ++ e ∷ []) (s.logs (home s a)))) (lt-ltb (home s a) s.nodes less) ∙ node_added s g (home s a) e less) held))

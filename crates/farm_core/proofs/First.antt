@@ -1,6 +1,7 @@
 -- The states before the first begin and the first collect: each list is its first entry.
 use Rattle.std.proofs.Common.{◌≡◌, ℕ, ◌+◌, ◌*◌, ◌/◌, ◌%◌, ◌<◌, ◌≤◌, cond, Bool, true, false, List, [], ◌∷◌, Some, None, sym, refl, ap, ◌∙◌, subst, ⊎_elim, arith}
 use Rattle.std.proofs.Math.Nat.{div-lt_iff_lt-mul}
+use Rattle.a1_base.specs.declared.limits.TheConstants.{NODE_LIMIT}
 use Rattle.a1_base.specs.declared.place.Addr.{Addr}
 use Rattle.a1_base.specs.declared.place.TxnId.{TxnId}
 use Rattle.object_region.specs.Occupancy.{region_count, same_addr, IsPlace}
@@ -8,9 +9,10 @@ use Rattle.farm_node.specs.declared.entry.Start.{Start}
 use Rattle.farm_node.specs.declared.entry.Entry.{Entry}
 use Rattle.farm_node.specs.declared.entry.Entry.TheVariants.{Made}
 use Rattle.farm_node.specs.Cell.{Bytes, loaded_cell}
-use Rattle.farm_node.specs.Plain.{IsStamp, occupancy, loaded_cells, begun, Loads, Begins, Lawful, replay}
+use Rattle.farm_node.specs.NodeState.{occupancy, loaded_cells, begun, Loads, Lawful, replay, IsStart}
+use Rattle.a1_base.specs.Stamps.{IsStamp}
 use Rattle.farm_node.specs.Story.{Installed, Story, nobody, loaded_puts, story_begun}
-use Rattle.farm_node.specs.Laws.{Among}
+use Rattle.a1_base.specs.Lists.{IsAmong}
 use Rattle.farm_node.proofs.Stories.{Ends, ends}
 use Rattle.farm_core.specs.Machine.{Transaction, unbegun, State, fresh, start_of, home, node_of, set_log, log_loaded, IsAddr}
 use Rattle.farm_core.proofs.Low.{BoundLow}
@@ -31,10 +33,10 @@ sane_unbegun clock begins t = record {
 
 -- what was loaded is nobody's
 
-loaded_nobody : (a : Addr) (stamp : ℕ) (heap : List (Addr × Bytes)) (i : Installed) → Among i (loaded_puts a stamp heap) → i.by ≡ nobody
+loaded_nobody : (a : Addr) (stamp : ℕ) (heap : List (Addr × Bytes)) (i : Installed) → IsAmong i (loaded_puts a stamp heap) → i.by ≡ nobody
 loaded_nobody a stamp [] i there = absurd there
 loaded_nobody a stamp (x ∷ xs) i there = by (loaded_nobody a stamp xs i) (same_addr x.0 a) there where
-  by : (Among i (loaded_puts a stamp xs) → i.by ≡ nobody) → (g : Bool) → Among i (cond g (record { by = nobody; read = 0; stamp = stamp; value = Some x.1 } ∷ []) (loaded_puts a stamp xs)) → i.by ≡ nobody
+  by : (IsAmong i (loaded_puts a stamp xs) → i.by ≡ nobody) → (g : Bool) → IsAmong i (cond g (record { by = nobody; read = 0; stamp = stamp; value = Some x.1 } ∷ []) (loaded_puts a stamp xs)) → i.by ≡ nobody
   by more true there = ⊎_elim (λ is. ap (λ (z : Installed). z.by) (sym is)) (λ none. absurd none) there
   by more false there = more there
 
@@ -55,7 +57,7 @@ held_first t a m actor lawful =
       locked = λ locked going. absurd (cc);
     }
 
-module _ (s : State) (count : (0 < s.nodes) × (s.nodes ≤ 16)) (clock : (0 < s.clock) × IsStamp s.clock)
+module _ (s : State) (count : (0 < s.nodes) × (s.nodes ≤ NODE_LIMIT)) (clock : (0 < s.clock) × IsStamp s.clock)
     (lists : (n : ℕ) → n < s.nodes → Listed s.clock s.nodes n (s.logs n)) (firsts : (n : ℕ) → n < s.nodes → IsFirst (s.logs n))
     (none : (t : TxnId) → s.transactions t ≡ unbegun) where
   first_held : (t : TxnId) (a : Addr) → 0 < t.actor → HeldAt t unbegun a (s.logs (home s a))
@@ -92,7 +94,7 @@ module _ (s : State) (count : (0 < s.nodes) × (s.nodes ≤ 16)) (clock : (0 < s
     };
   }
 
-pub good_fresh : (nodes : ℕ) → 0 < nodes → nodes ≤ 16 → Good (fresh nodes)
+pub good_fresh : (nodes : ℕ) → 0 < nodes → nodes ≤ NODE_LIMIT → Good (fresh nodes)
 good_fresh nodes low high = good_first (fresh nodes) (low, high) (omega arith, omega arith)
     (λ n less. record {
       lawful = ((less, high, omega arith, omega arith, tt), tt);
@@ -119,7 +121,7 @@ place_of m nodes n a low there at_home number count =
 listed_loaded : (clock nodes n : ℕ) (a : Addr) (bytes : Bytes) (m : Start) → 0 < nodes → IsAddr nodes a → a.region % nodes ≡ n → loaded_cells m.stamp m.heap a ≡ None
     → Listed clock nodes n (Made m ∷ []) → Listed clock nodes n (Made (record m { heap = (a, bytes) ∷ m.heap }) ∷ [])
 listed_loaded clock nodes n a bytes m low there at_home empty l =
-    let b : Begins m = l.lawful.0 in
+    let b : IsStart m = l.lawful.0 in
     let stamp : m.stamp ≤ clock = l.low.floor in
     record {
       lawful = ((b.0, b.1, b.2, b.3, (place_of m nodes n a low there at_home l.number l.count, empty, loads_same m ((a, bytes) ∷ m.heap) m.heap b.4)), tt);

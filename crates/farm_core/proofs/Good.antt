@@ -1,13 +1,15 @@
 -- What every state of a run keeps, and the changes that keep it.
 use Rattle.std.proofs.Common.{◌≡◌, ◌≢◌, ◌⊎◌, ℕ, ◌+◌, ◌<◌, ◌≤◌, nat_lt, eqb, cond, Bool, true, false, List, [], ◌∷◌, ◌++◌, Option, Some, None, Ok, Err, sym, refl, ap, ◌∙◌, subst, arith, append_assoc}
 use Rattle.std.proofs.lemmas.Bool.{eqb-true}
+use Rattle.a1_base.specs.declared.limits.TheConstants.{ACTOR_LIMIT, NODE_LIMIT}
 use Rattle.a1_base.specs.declared.place.Addr.{Addr}
 use Rattle.a1_base.specs.declared.place.TxnId.{TxnId}
 use Rattle.farm_node.specs.declared.entry.Start.{Start}
 use Rattle.farm_node.specs.declared.entry.Entry.{Entry}
 use Rattle.farm_node.specs.declared.entry.Entry.TheVariants.{Made, Open, Shut, Read, Alloc, Lock, Check, Put, Unlock, Collect}
 use Rattle.farm_node.specs.Cell.{same_txn}
-use Rattle.farm_node.specs.Plain.{IsStamp, Plain, Fits, after, Lawful, replay}
+use Rattle.farm_node.specs.NodeState.{NodeState, Fits, after, Lawful, replay}
+use Rattle.a1_base.specs.Stamps.{IsStamp}
 use Rattle.farm_node.specs.Story.{Story, story}
 use Rattle.farm_node.proofs.Sound.{txn_eq, sound_end}
 use Rattle.farm_node.proofs.Steps.{keeps}
@@ -21,13 +23,13 @@ pub record Listed (clock nodes n : ℕ) (log : List Entry) : Type 0 where
   pub lawful : Lawful log
   pub number : (replay log).node ≡ n
   pub count : (replay log).nodes ≡ nodes
-  pub actors : (replay log).actors ≡ 35
+  pub actors : (replay log).actors ≡ ACTOR_LIMIT
   pub low : Low clock (replay log)
 
 -- a transaction's phase
 pub record Sane (clock : ℕ) (begins : ℕ → ℕ) (t : TxnId) (x : Transaction) : Type 0 where
   pub fresh : x.stage ≡ Unbegun → x ≡ unbegun
-  pub begun : x.stage ≢ Unbegun → (0 < t.actor) × (t.actor ≤ 35) × (t.number ≤ begins t.actor) × (0 < x.read_stamp)
+  pub begun : x.stage ≢ Unbegun → (0 < t.actor) × (t.actor ≤ ACTOR_LIMIT) × (t.number ≤ begins t.actor) × (0 < x.read_stamp)
   pub current : x.is_open ≡ true → t.number ≡ begins t.actor
   pub read : x.read_stamp ≤ clock
   pub write : x.write_stamp ≤ clock
@@ -52,7 +54,7 @@ IsFirst log = (m : Start) × (log ≡ Made m ∷ [])
 
 -- all but the pins
 pub record Base (s : State) : Type 0 where
-  pub count : (0 < s.nodes) × (s.nodes ≤ 16)
+  pub count : (0 < s.nodes) × (s.nodes ≤ NODE_LIMIT)
   pub clock : (0 < s.clock) × IsStamp s.clock
   pub lists : (n : ℕ) → n < s.nodes → Listed s.clock s.nodes n (s.logs n)
   pub sane : (t : TxnId) → Sane s.clock s.begins t (s.transactions t)
@@ -75,7 +77,7 @@ pub record Good (s : State) : Type 0 where
 
 -- one entry more
 
-kept_after : (p : Plain) (e : Entry) → ((after p e).node ≡ p.node) × ((after p e).nodes ≡ p.nodes) × ((after p e).actors ≡ p.actors)
+kept_after : (p : NodeState) (e : Entry) → ((after p e).node ≡ p.node) × ((after p e).nodes ≡ p.nodes) × ((after p e).actors ≡ p.actors)
 kept_after p (Made m) = (refl, refl, refl)
 kept_after p (Open k c x) = (refl, refl, refl)
 kept_after p (Shut k) = (refl, refl, refl)
@@ -96,15 +98,15 @@ listed_more clock nodes n log e l fits low =
     let kept = kept_after (replay log) e in
     record {
       lawful = lawful_more log e l.lawful fits;
-      number = ap (λ (p : Plain). p.node) is ∙ (kept.0 ∙ l.number);
-      count = ap (λ (p : Plain). p.nodes) is ∙ (kept.1 ∙ l.count);
-      actors = ap (λ (p : Plain). p.actors) is ∙ (kept.2 ∙ l.actors);
+      number = ap (λ (p : NodeState). p.node) is ∙ (kept.0 ∙ l.number);
+      count = ap (λ (p : NodeState). p.nodes) is ∙ (kept.1 ∙ l.count);
+      actors = ap (λ (p : NodeState). p.actors) is ∙ (kept.2 ∙ l.actors);
       low = subst (Low clock) (sym is) (low_after clock (replay log) e fits low l.low);
     }
 
 held_more : (t : TxnId) (x : Transaction) (a : Addr) (log : List Entry) (e : Entry) → Lawful log → Fits (replay log) e → Allows t x e → HeldAt t x a log → HeldAt t x a (log ++ e ∷ [])
 held_more t x a log e lawful fits allows h =
-    subst (λ (z : Plain × Story). Held t x a (z.0.cells a) z.0.past z.0.floor z.1) (λ i. (sym (replay_more log e lawful) i, sym (story_more a log e lawful) i))
+    subst (λ (z : NodeState × Story). Held t x a (z.0.cells a) z.0.past z.0.floor z.1) (λ i. (sym (replay_more log e lawful) i, sym (story_more a log e lawful) i))
     (keeps a (Allows t x) (Held t x a) (held t x a) (replay log) (story a log) e (sound_end log lawful) fits allows h)
 
 same_more : (t : TxnId) (a : Addr) (r w : ℕ) (log : List Entry) (e : Entry) → SameIn log t a r w → SameIn (log ++ e ∷ []) t a r w
@@ -266,7 +268,7 @@ NoPin (Open k c x) = ⊥
 NoPin (Shut k) = ⊥
 NoPin e = Unit {0}
 
-pins_still : (p : Plain) (e : Entry) → NoPin e → (k : ℕ) → (after p e).pins k ≡ p.pins k
+pins_still : (p : NodeState) (e : Entry) → NoPin e → (k : ℕ) → (after p e).pins k ≡ p.pins k
 pins_still p (Made m) bare k = refl
 pins_still p (Open j c x) bare k = absurd bare
 pins_still p (Shut j) bare k = absurd bare
@@ -288,7 +290,7 @@ pinned_adding s n e p lawful bare = record {
 } where
   same : (k m : ℕ) (pin : Option ℕ) → (node_at s m).pins k ≡ pin → (replay (set_log n (s.logs n ++ e ∷ []) s.logs m)).pins k ≡ pin
   same k m pin is = grown (λ log. (replay log).pins k ≡ pin) n m (s.logs n ++ e ∷ []) s.logs
-      (λ here. ap (λ (q : Plain). q.pins k) (replay_more (s.logs n) e lawful) ∙ (pins_still (node_at s n) e bare k ∙ (ap (λ (z : ℕ). (node_at s z).pins k) here ∙ is)))
+      (λ here. ap (λ (q : NodeState). q.pins k) (replay_more (s.logs n) e lawful) ∙ (pins_still (node_at s n) e bare k ∙ (ap (λ (z : ℕ). (node_at s z).pins k) here ∙ is)))
       is
 
 pinned_moving : (s : State) (t : TxnId) (change : Transaction → Transaction) → Pinned s

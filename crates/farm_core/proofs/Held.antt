@@ -8,9 +8,9 @@ use Rattle.farm_node.specs.declared.hold.Hold.{Hold}
 use Rattle.farm_node.specs.declared.entry.Entry.{Entry}
 use Rattle.farm_node.specs.declared.entry.Entry.TheVariants.{Alloc, Lock, Put, Unlock}
 use Rattle.farm_node.specs.Cell.{Cell, same_txn, is_open as is_free, is_gone}
-use Rattle.farm_node.specs.Plain.{Plain, HeldBy}
+use Rattle.farm_node.specs.NodeState.{NodeState, HeldBy}
 use Rattle.farm_node.specs.Story.{Given, gives, Installed, Story}
-use Rattle.farm_node.specs.Laws.{Among}
+use Rattle.a1_base.specs.Lists.{IsAmong}
 use Rattle.farm_node.proofs.Addresses.{and_left, addr_eq}
 use Rattle.farm_node.proofs.Sound.{txn_self}
 use Rattle.farm_node.proofs.Steps.{Keeps}
@@ -29,7 +29,7 @@ abbrev pub Holds : TxnId → Option Cell → Type 0
 Holds t None = ⊥
 Holds t (Some c) = HasLock t c.lock
 
-pub holds_held : (p : Plain) (t : TxnId) (a : Addr) → Holds t (p.cells a) → HeldBy p t a
+pub holds_held : (p : NodeState) (t : TxnId) (a : Addr) → Holds t (p.cells a) → HeldBy p t a
 holds_held p t a holds = by (p.cells a) refl holds where
   on : (c : Cell) (l : Option Hold) → p.cells a ≡ Some c → c.lock ≡ l → HasLock t l → HeldBy p t a
   on c None is lock has = absurd has
@@ -41,7 +41,7 @@ holds_held p t a holds = by (p.cells a) refl holds where
 
 -- the transaction has put
 abbrev pub HasPut : TxnId → List Installed → Type 0
-HasPut t puts = (i : Installed) × Among i puts × (i.by ≡ t)
+HasPut t puts = (i : Installed) × IsAmong i puts × (i.by ≡ t)
 
 -- under a lock the bound stays below the write stamp, and what was last given bears the read stamp
 pub record Holding (t : TxnId) (x : Transaction) (bound : ℕ) (h : Story) : Type 0 where
@@ -60,7 +60,7 @@ pub record IsPut (x : Transaction) (i : Installed) : Type 0 where
 
 pub record Held (t : TxnId) (x : Transaction) (a : Addr) (c : Option Cell) (past floor : ℕ) (h : Story) : Type 0 where
   pub below : Below c
-  pub puts : (i : Installed) → Among i h.puts → i.by ≡ t → IsPut x i
+  pub puts : (i : Installed) → IsAmong i h.puts → i.by ≡ t → IsPut x i
   pub holding : HoldingCell t x c h
   pub locked : x.had_locked a ≡ true → x.stage ≢ Refused → Holds t c ⊎ HasPut t h.puts
 

@@ -3,14 +3,14 @@ use Rattle.std.proofs.Common.{◌≡◌, List, [], ◌∷◌, ◌++◌, refl}
 use Rattle.a1_base.specs.declared.place.Addr.{Addr}
 use Rattle.farm_node.specs.declared.entry.Entry.{Entry}
 use Rattle.farm_node.specs.declared.entry.Entry.TheVariants.{Made}
-use Rattle.farm_node.specs.Plain.{Plain, Fits, after, begun, replay_from, LawfulFrom, replay, Lawful}
+use Rattle.farm_node.specs.NodeState.{NodeState, Fits, after, begun, replay_from, LawfulFrom, replay, Lawful}
 use Rattle.farm_node.specs.Story.{Story, story_after, story_from, story_begun, story}
 
-lawful_from_more : (p : Plain) (es : List Entry) (e : Entry) → LawfulFrom p es → Fits (replay_from p es) e → LawfulFrom p (es ++ e ∷ [])
+lawful_from_more : (p : NodeState) (es : List Entry) (e : Entry) → LawfulFrom p es → Fits (replay_from p es) e → LawfulFrom p (es ++ e ∷ [])
 lawful_from_more p [] e lawful fits = (fits, tt)
 lawful_from_more p (x ∷ xs) e lawful fits = (lawful.0, lawful_from_more (after p x) xs e lawful.1 fits)
 
-replay_from_more : (p : Plain) (es : List Entry) (e : Entry) → replay_from p (es ++ e ∷ []) ≡ after (replay_from p es) e
+replay_from_more : (p : NodeState) (es : List Entry) (e : Entry) → replay_from p (es ++ e ∷ []) ≡ after (replay_from p es) e
 replay_from_more p [] e = refl
 replay_from_more p (x ∷ xs) e = replay_from_more (after p x) xs e
 

@@ -3,13 +3,14 @@ use Rattle.std.proofs.Common.{◌≡◌, ℕ, ◌+◌, ◌*◌, ◌/◌, ◌%◌
 use Rattle.std.proofs.Math.ListN.{set, length-set}
 use Rattle.std.proofs.lemmas.Bool.{both_ways, eqb-true, eqb-false}
 use Rattle.std.proofs.lemmas.Nat.{div-add-mod', div_below}
+use Rattle.a1_base.specs.declared.limits.TheConstants.{ACTOR_LIMIT}
 use Rattle.a1_base.specs.declared.place.Addr.{Addr}
 use Rattle.a1_base.specs.declared.place.TxnId.{TxnId}
 use Rattle.object_region.specs.Occupancy.{region_count, IsPlace}
 use Rattle.farm_node.specs.declared.node.Node.{Node}
 use Rattle.farm_node.specs.declared.entry.Entry.{Entry}
 use Rattle.farm_node.specs.Cell.{Bytes, Cell, loaded_cell}
-use Rattle.farm_node.specs.Plain.{Plain, HeldBy, occupancy, Lawful, replay}
+use Rattle.farm_node.specs.NodeState.{NodeState, HeldBy, occupancy, Lawful, replay}
 use Rattle.farm_node.specs.State.{with_cell}
 use Rattle.farm_node.specs.Node.{plain_of}
 use Rattle.farm_core.specs.declared.event.Event.TheVariants.{Load}
@@ -67,7 +68,7 @@ module _ (farm : Farm) (s : State) (st : Stands farm s) (a : Addr) where
     pub load_taken : (bytes : Bytes) (has : Bool) → has ≡ is_some ((plain_of old).cells a) → has ≡ true → StepsTo s (Load a bytes) (Ok No) (Stands farm)
     load_taken bytes has says yes_it = (
       s,
-      inr (λ meets. some_value ((node_of s a).cells a) (ap (λ (p : Plain). is_some (p.cells a)) (sym here) ∙ (sym says ∙ yes_it)) meets.1, (refl, refl)),
+      inr (λ meets. some_value ((node_of s a).cells a) (ap (λ (p : NodeState). is_some (p.cells a)) (sym here) ∙ (sym says ∙ yes_it)) meets.1, (refl, refl)),
       st,
     )
 
@@ -76,14 +77,14 @@ module _ (farm : Farm) (s : State) (st : Stands farm s) (a : Addr) where
       log_first = (g.base.first (sym st.loading_is ∙ loading)).0 (home s a) less
 
       pub load_stamp : 0 < (plain_of old).floor
-      load_stamp = subst (λ (p : Plain). 0 < p.floor) (sym here) (first_floor (s.logs (home s a)) log_first (g.base.lists (home s a) less).lawful)
+      load_stamp = subst (λ (p : NodeState). 0 < p.floor) (sym here) (first_floor (s.logs (home s a)) log_first (g.base.lists (home s a) less).lawful)
 
       pub load_place : IsAddr (length farm.nodes.items) a → IsPlace (occupancy (plain_of old)) a
       load_place range =
           let l : Listed s.clock s.nodes (home s a) (s.logs (home s a)) = g.base.lists (home s a) less in
           let low : a.region < region_count * s.nodes = subst (λ (k : ℕ). a.region < region_count * k) st.nodes_stand.number range.0 in
           let parts = divided a.region region_count s.nodes g.base.count.0 low in
-          subst (λ (p : Plain). IsPlace (occupancy p) a) (sym here)
+          subst (λ (p : NodeState). IsPlace (occupancy p) a) (sym here)
           ((a.region / s.nodes, parts.0, parts.1 ∙ (λ i. sym l.number i + (a.region / s.nodes) * sym l.count i)), range.1)
 
       module _ (v : Node) (bytes copy : Bytes) (same : copy ≡ bytes) (has : Bool) (says : has ≡ is_some ((plain_of old).cells a)) (free : has ≡ false) where
@@ -91,7 +92,7 @@ module _ (farm : Farm) (s : State) (st : Stands farm s) (a : Addr) where
         later = record s { logs = set_log (home s a) (log_loaded a bytes (s.logs (home s a))) s.logs }
 
         meets : Meets s (Load a bytes)
-        meets = (sym st.loading_is ∙ loading, no_value ((node_of s a).cells a) (ap (λ (p : Plain). is_some (p.cells a)) (sym here) ∙ (sym says ∙ free)))
+        meets = (sym st.loading_is ∙ loading, no_value ((node_of s a).cells a) (ap (λ (p : NodeState). is_some (p.cells a)) (sym here) ∙ (sym says ∙ free)))
 
         written : plain_of v ≡ with_cell a (loaded_cell (plain_of old).floor copy) (plain_of old) → plain_of v ≡ replay (log_loaded a bytes (s.logs (home s a)))
         written made = made ∙ ((λ i. with_cell a (loaded_cell (here i).floor (same i)) (here i)) ∙ sym (first_loaded (s.logs (home s a)) a bytes log_first))
@@ -109,7 +110,7 @@ module _ (farm : Farm) (s : State) (st : Stands farm s) (a : Addr) where
         held_before u b = grown (λ log. HeldBy (replay log) u b → HoldsLockAt s u b) (home s a) (home s b) (log_loaded a bytes (s.logs (home s a))) s.logs
             (λ e held. holds_held (node_of s b) u b (subst (λ (m : ℕ). Holds u ((node_at s m).cells b)) e
             (kept_set u a b (Some (loaded_cell (node_of s a).floor bytes)) (node_of s a).cells (λ none. absurd none)
-            (subst (λ (p : Plain). Holds u (p.cells b)) (first_loaded (s.logs (home s a)) a bytes log_first) (held_holds (replay (log_loaded a bytes (s.logs (home s a)))) u b held)))))
+            (subst (λ (p : NodeState). Holds u (p.cells b)) (first_loaded (s.logs (home s a)) a bytes log_first) (held_holds (replay (log_loaded a bytes (s.logs (home s a)))) u b held)))))
             (λ held. held)
 
         pub load_stands : (after : Farm) → IsAddr (length farm.nodes.items) a → IsObject bytes → plain_of v ≡ with_cell a (loaded_cell (plain_of old).floor copy) (plain_of old)
@@ -124,7 +125,7 @@ module _ (farm : Farm) (s : State) (st : Stands farm s) (a : Addr) where
             loading_is = loading_is ∙ st.loading_is;
             nodes_stand = subst (λ (ns : List Node). NodesStand ns later.nodes later.logs) (sym nodes_are) (nodes_after made);
             count = ap length slots_are ∙ st.count;
-            slots_stand = subst (λ (all : List Slot). (k : ℕ) (d : Slot) → 0 < k → k ≤ 35 → SlotStands (get_or all k d) k later) (sym slots_are)
+            slots_stand = subst (λ (all : List Slot). (k : ℕ) (d : Slot) → 0 < k → k ≤ ACTOR_LIMIT → SlotStands (get_or all k d) k later) (sym slots_are)
                 (λ k d low high. slot_kept (get_or farm.slots.items k d) k s later refl (λ u e. refl) (λ u b e. held_before u b) (st.slots_stand k d low high));
           },
         )
@@ -137,5 +138,5 @@ module _ (farm : Farm) (s : State) (st : Stands farm s) (a : Addr) where
       loading_is = loading_is ∙ st.loading_is;
       nodes_stand = subst (λ (ns : List Node). NodesStand ns s.nodes s.logs) (sym nodes_are) (nodes_kept s g farm.nodes.items st.nodes_stand n old v n_less (same ∙ ap plain_of there));
       count = ap length slots_are ∙ st.count;
-      slots_stand = subst (λ (all : List Slot). (k : ℕ) (d : Slot) → 0 < k → k ≤ 35 → SlotStands (get_or all k d) k s) (sym slots_are) st.slots_stand;
+      slots_stand = subst (λ (all : List Slot). (k : ℕ) (d : Slot) → 0 < k → k ≤ ACTOR_LIMIT → SlotStands (get_or all k d) k s) (sym slots_are) st.slots_stand;
     }

@@ -6,14 +6,14 @@ use Rattle.version_chain.specs.Versions.{cut}
 use Rattle.farm_node.specs.declared.entry.Entry.{Entry}
 use Rattle.farm_node.specs.declared.entry.Entry.TheVariants.{Made, Open, Shut, Read, Alloc, Lock, Check, Put, Unlock, Collect}
 use Rattle.farm_node.specs.Cell.{Cell, raised_to, past_raised, locked_by, installed, released, past_released, goes, collected, past_collected}
-use Rattle.farm_node.specs.Plain.{Plain, set_cell, places, least_pin, new_floor, past_over, Fits, looked_at, after, lesser}
+use Rattle.farm_node.specs.NodeState.{NodeState, set_cell, places, least_pin, new_floor, past_over, Fits, looked_at, after, lesser}
 use Rattle.a1_base.specs.declared.place.TxnId.{TxnId}
 
 abbrev pub BoundLow : ℕ → Option Cell → Type 0
 BoundLow clock None = Unit {0}
 BoundLow clock (Some c) = c.bound ≤ clock
 
-pub record Low (clock : ℕ) (p : Plain) : Type 0 where
+pub record Low (clock : ℕ) (p : NodeState) : Type 0 where
   pub cells : (a : Addr) → BoundLow clock (p.cells a)
   pub past : p.past ≤ clock
   pub floor : p.floor ≤ clock
@@ -31,7 +31,7 @@ bound_more : (m n : ℕ) (c : Option Cell) → m ≤ n → BoundLow m c → Boun
 bound_more m n None le low = tt
 bound_more m n (Some c) le low = omega arith
 
-pub low_more : (m n : ℕ) (p : Plain) → m ≤ n → Low m p → Low n p
+pub low_more : (m n : ℕ) (p : NodeState) → m ≤ n → Low m p → Low n p
 low_more m n p le low = record {
   cells = λ a. bound_more m n (p.cells a) le (low.cells a);
   past = let x : p.past ≤ m = low.past in omega arith;
@@ -84,14 +84,14 @@ module _ (clock : ℕ) where
       let low : least_pin f pins n ≤ clock = least_low f pins n le in
       elim (pins (suc n)) as (λ c. lesser c (least_pin f pins n) ≤ clock) [ None ↦ low | Some x ↦ omega arith ]
 
-  low_looked : (p : Plain) (b : Addr) (s : ℕ) → s ≤ clock → Low clock p → Low clock (looked_at b s p)
+  low_looked : (p : NodeState) (b : Addr) (s : ℕ) → s ≤ clock → Low clock p → Low clock (looked_at b s p)
   low_looked p b s le low = record {
     cells = λ a. low_set b a _ p.cells (low_raised s (p.cells b) le (low.cells b)) (low.cells a);
     past = low_past_raised s p.past (p.cells b) le low.past;
     floor = low.floor;
   }
 
-  pub low_after : (p : Plain) (e : Entry) → Fits p e → LowEntry clock e → Low clock p → Low clock (after p e)
+  pub low_after : (p : NodeState) (e : Entry) → Fits p e → LowEntry clock e → Low clock p → Low clock (after p e)
   low_after p (Made m) fits le low = low
   low_after p (Open k c x) fits le low = record { cells = low.cells; past = low.past; floor = low.floor }
   low_after p (Shut k) fits le low = record { cells = low.cells; past = low.past; floor = low.floor }

@@ -1,12 +1,13 @@
 -- A begin and a shut keep a state good.
 use Rattle.std.proofs.Common.{◌≡◌, ◌≢◌, ℕ, ◌+◌, ◌<◌, ◌≤◌, eqb, cond, Bool, true, false, Some, None, sym, refl, ap, ◌∙◌, subst, arith}
 use Rattle.std.proofs.lemmas.Bool.{eq-eqb, eqb-true, eqb-false, ne_eqb}
+use Rattle.a1_base.specs.declared.limits.TheConstants.{ACTOR_LIMIT}
 use Rattle.a1_base.specs.declared.place.Addr.{Addr}
 use Rattle.a1_base.specs.declared.place.TxnId.{TxnId}
 use Rattle.farm_node.specs.declared.entry.Entry.{Entry}
 use Rattle.farm_node.specs.declared.entry.Entry.TheVariants.{Open, Shut}
 use Rattle.farm_node.specs.Cell.{same_txn}
-use Rattle.farm_node.specs.Plain.{Plain, Fits}
+use Rattle.farm_node.specs.NodeState.{NodeState, Fits}
 use Rattle.farm_node.proofs.Sound.{txn_eq, txn_self}
 use Rattle.farm_core.specs.Machine.{Transaction, unbegun, begun_at, ended, State, home, node_at, adding_to_all, set_transaction, moving, counting_begin, loading_over, HoldsLock}
 use Rattle.farm_core.proofs.Held.{Holds, holds_held, held_begun, held_ended}
@@ -27,7 +28,7 @@ moved_self t x transactions = ap (λ (g : Bool). cond g x (transactions t)) (txn
 module _ (s : State) (g : Good s) where
   -- begin
 
-  module _ (t : TxnId) (actor : 0 < t.actor) (few : t.actor ≤ 35) (none : NoneOpen s t.actor) (next_number : t.number ≡ s.begins t.actor + 1) where
+  module _ (t : TxnId) (actor : 0 < t.actor) (few : t.actor ≤ ACTOR_LIMIT) (none : NoneOpen s t.actor) (next_number : t.number ≡ s.begins t.actor + 1) where
     abbrev open_entry : Entry
     open_entry = Open t.actor s.clock s.clock
 
@@ -40,7 +41,7 @@ module _ (s : State) (g : Good s) where
     open_fits : (n : ℕ) → n < s.nodes → Fits (node_at s n) open_entry
     open_fits n less =
         let l = g.base.lists n less in
-        let actors : (node_at s n).actors ≡ 35 = l.actors in
+        let actors : (node_at s n).actors ≡ ACTOR_LIMIT = l.actors in
         let floor : (node_at s n).floor ≤ s.clock = l.low.floor in
         (actor, omega arith, g.pins.none_at t.actor n less none, g.base.clock.1, omega arith)
 
@@ -65,7 +66,7 @@ module _ (s : State) (g : Good s) where
         (λ u drawn is. absurd (omega arith))
 
     pin_is : (n : ℕ) → n < s.nodes → (k : ℕ) → (node_at begun n).pins k ≡ cond (eqb t.actor k) (Some s.clock) ((node_at s n).pins k)
-    pin_is n less k = ap (λ (p : Plain). p.pins k) (all_grown_node s g n open_entry less)
+    pin_is n less k = ap (λ (p : NodeState). p.pins k) (all_grown_node s g n open_entry less)
 
     other_actor : (u : TxnId) → (s.transactions u).is_open ≡ true → t.actor ≢ u.actor
     other_actor u is_open same = let closed : (s.transactions u).is_open ≡ false = none u (sym same) in cc
@@ -105,7 +106,7 @@ module _ (s : State) (g : Good s) where
     holds_none a has = free (
       a,
       holds_held (node_at s (home s a)) t a
-          (subst (λ (p : Plain). Holds t (p.cells a)) (all_grown_node s g (home s a) (Shut t.actor) (less_home s g a)) has),
+          (subst (λ (p : NodeState). Holds t (p.cells a)) (all_grown_node s g (home s a) (Shut t.actor) (less_home s g a)) has),
     )
 
     base_shut : Base shut
@@ -116,7 +117,7 @@ module _ (s : State) (g : Good s) where
         (base_unpinned.apart t)
 
     unpin_is : (n : ℕ) → n < s.nodes → (k : ℕ) → (node_at shut n).pins k ≡ cond (eqb t.actor k) None ((node_at s n).pins k)
-    unpin_is n less k = ap (λ (p : Plain). p.pins k) (all_grown_node s g n (Shut t.actor) less)
+    unpin_is n less k = ap (λ (p : NodeState). p.pins k) (all_grown_node s g n (Shut t.actor) less)
 
     -- one is open for each actor
     sole : (u : TxnId) → (s.transactions u).is_open ≡ true → t.actor ≡ u.actor → t ≡ u

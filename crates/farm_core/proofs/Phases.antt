@@ -1,8 +1,9 @@
 -- The ways of a transaction: each next phase is sane, and keeps a state good.
 use Rattle.std.proofs.Common.{◌≡◌, ◌≢◌, ◌⊎◌, ℕ, ◌+◌, ◌<◌, ◌≤◌, Bool, true, false, refl, ap, subst, ⊎_elim, arith}
+use Rattle.a1_base.specs.declared.limits.TheConstants.{ACTOR_LIMIT}
 use Rattle.a1_base.specs.declared.place.Addr.{Addr}
 use Rattle.a1_base.specs.declared.place.TxnId.{TxnId}
-use Rattle.farm_node.specs.Plain.{IsStamp}
+use Rattle.a1_base.specs.Stamps.{IsStamp}
 use Rattle.farm_core.specs.Machine.{Stage, Unbegun, Reading, Drawn, Installing, Refused, Transaction, begun_at, in_stage, drawn_at, with_addr, with_locked, ended, State, home, node_at, moving, AllSame}
 use Rattle.farm_core.proofs.Held.{Holds, held_staged, held_locked, held_drawn}
 use Rattle.farm_core.proofs.Good.{Sane, SameIn, Good, home_low, base_ticking, good_moving}
@@ -83,7 +84,7 @@ module _ (clock : ℕ) (begins : ℕ → ℕ) (t : TxnId) (x : Transaction) (y :
     all_same = λ installing. absurd (cc);
   }
 
-pub sane_begun : (clock : ℕ) (begins : ℕ → ℕ) (t : TxnId) → 0 < clock → 0 < t.actor → t.actor ≤ 35 → t.number ≡ begins t.actor → Sane clock begins t (begun_at clock)
+pub sane_begun : (clock : ℕ) (begins : ℕ → ℕ) (t : TxnId) → 0 < clock → 0 < t.actor → t.actor ≤ ACTOR_LIMIT → t.number ≡ begins t.actor → Sane clock begins t (begun_at clock)
 sane_begun clock begins t low actor few current = record {
   fresh = λ none. absurd (cc);
   begun = λ is. (actor, few, omega arith, low);

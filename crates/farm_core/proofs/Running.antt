@@ -2,9 +2,10 @@
 use Rattle.std.proofs.Common.{◌≡◌, ℕ, zero, suc, ◌+◌, ◌<◌, ◌≤◌, eqb, Bool, true, false, List, [], ◌∷◌, ◌++◌, length, take, get_or, Option, None, Result, Ok, Err, sym, refl, ap, ◌∙◌, subst, length-append, OnErr, arith}
 use Rattle.std.proofs.lemmas.List.{take_more, take_all}
 use Rattle.std.proofs.lemmas.Bool.{eqb-true, eqb-false}
+use Rattle.a1_base.specs.declared.limits.TheConstants.{NODE_LIMIT}
 use Rattle.farm_node.specs.declared.node.Node.{Node}
 use Rattle.farm_node.specs.declared.entry.Entry.TheVariants.{Made}
-use Rattle.farm_node.specs.Plain.{replay}
+use Rattle.farm_node.specs.NodeState.{replay}
 use Rattle.farm_node.specs.Node.{plain_of, StandsFor}
 use Rattle.farm_core.specs.declared.event.Event.{Event}
 use Rattle.farm_core.specs.declared.event.Answer.{Answer}
@@ -73,7 +74,7 @@ begun_more count number nodes v b stands = record {
   by n less false is = let differ : n ≡ number → ⊥ = eqb-false n number is in let made : length nodes ≡ number = b.made in let low : n < number = omega arith in
       plains_front nodes v n (omega arith) ∙ b.each n low
 
-pub fresh_stands : (farm : Farm) (count : ℕ) → 0 < count → count ≤ 16 → NodesStand farm.nodes.items count (fresh count).logs → farm.clock ≡ 1 → farm.loading ≡ true → AreNew farm.slots.items → Stands farm (fresh count)
+pub fresh_stands : (farm : Farm) (count : ℕ) → 0 < count → count ≤ NODE_LIMIT → NodesStand farm.nodes.items count (fresh count).logs → farm.clock ≡ 1 → farm.loading ≡ true → AreNew farm.slots.items → Stands farm (fresh count)
 fresh_stands farm count some few nodes clock_is loading_is slots = record {
   reached = (some, few, ([], [], refl));
   clock_is = clock_is;

@@ -1,5 +1,6 @@
 -- Every run leaves a good state.
 use Rattle.std.proofs.Common.{ℕ, ◌<◌, ◌≤◌, List, [], ◌∷◌, sym, refl, subst, ⊎_elim}
+use Rattle.a1_base.specs.declared.limits.TheConstants.{NODE_LIMIT}
 use Rattle.farm_node.specs.Cell.{read_answer, lock_answer, check_answer}
 use Rattle.farm_core.specs.declared.event.Event.{Event}
 use Rattle.farm_core.specs.declared.event.Event.TheVariants.{Load, Begin, Read, Alloc, Lock, Draw, Check, Put, Unlock, Shut, Collect}
@@ -32,5 +33,5 @@ good_runs [] s (x ∷ xs) end g runs = absurd runs
 good_runs (e ∷ es) s [] end g runs = absurd runs
 good_runs (e ∷ es) s (x ∷ xs) end g runs = let step = runs.1 in good_runs es step.0 xs end (good_step s e x step.0 g runs.0 step.1) step.2
 
-pub good_run : (nodes : ℕ) (events : List Event) (answers : List Answer) (s : State) → 0 < nodes → nodes ≤ 16 → Runs (fresh nodes) events answers s → Good s
+pub good_run : (nodes : ℕ) (events : List Event) (answers : List Answer) (s : State) → 0 < nodes → nodes ≤ NODE_LIMIT → Runs (fresh nodes) events answers s → Good s
 good_run nodes events answers s low high runs = good_runs events (fresh nodes) answers s (good_fresh nodes low high) runs

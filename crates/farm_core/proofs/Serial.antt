@@ -5,8 +5,8 @@ use Rattle.a1_base.specs.declared.place.TxnId.{TxnId}
 use Rattle.farm_node.specs.declared.entry.Found.{Found}
 use Rattle.farm_node.specs.declared.entry.Entry.{Entry}
 use Rattle.farm_node.specs.declared.entry.Entry.TheVariants.{Read}
-use Rattle.farm_node.specs.Plain.{Lawful}
-use Rattle.farm_node.specs.Story.{Installed, story, seen, value_at}
+use Rattle.farm_node.specs.NodeState.{Lawful}
+use Rattle.farm_node.specs.Story.{Installed, story, value_at, stamped_bytes}
 use Rattle.farm_node.proofs.ReadsStay.{reads, pins}
 use Rattle.farm_node.proofs.PutsStay.{puts}
 use Rattle.farm_core.specs.Machine.{Installing, State, home, node_of}
@@ -16,7 +16,7 @@ use Rattle.farm_core.proofs.Good.{SameIn, Good, home_low}
 
 -- what an entry answered stands
 
-pub entered_stands : (log : List Entry) (k r : ℕ) (a : Addr) (found : Found) (before rest : List Entry) → Lawful log → log ≡ before ++ Read k a r (Ok found) ∷ rest → ValueStands log a r (seen found)
+pub entered_stands : (log : List Entry) (k r : ℕ) (a : Addr) (found : Found) (before rest : List Entry) → Lawful log → log ≡ before ++ Read k a r (Ok found) ∷ rest → ValueStands log a r (stamped_bytes found)
 entered_stands log k r a found before rest lawful is = record {
   whole = ap (λ (es : List Entry). value_at es a r) is ∙ reads.read before rest k a r found (subst Lawful is lawful);
   longer = λ more all.

@@ -1,11 +1,12 @@
 -- Which states of the machine the farm stands for.
 use Rattle.std.specs.Prelude.{◌≡◌, ℕ, Bool, not, is_some, ◌&&◌, ◌==◌, ◌+◌, ◌<◌, ◌≤◌, true, false, List, length, Option, Some, None, Result, Ok, Err, slice_index_or}
+use Rattle.a1_base.specs.declared.limits.TheConstants.{ACTOR_LIMIT}
 use Rattle.a1_base.specs.declared.Memory.{Memory}
 use Rattle.a1_base.specs.declared.place.Addr.{Addr}
 use Rattle.a1_base.specs.declared.place.TxnId.{TxnId}
 use Rattle.farm_node.specs.declared.node.Node.{Node}
 use Rattle.farm_node.specs.declared.entry.Entry.{Entry}
-use Rattle.farm_node.specs.Plain.{Plain, Adds}
+use Rattle.farm_node.specs.NodeState.{NodeState, Adds}
 use Rattle.farm_core.specs.declared.event.Event.{Event}
 use Rattle.farm_core.specs.declared.event.Event.TheVariants.{Shut}
 use Rattle.farm_core.specs.declared.event.Answer.{Answer}
@@ -37,8 +38,8 @@ pub record Stands (farm : Farm) (s : State) : Type 0 where
   pub clock_is : farm.clock ≡ s.clock
   pub loading_is : farm.loading ≡ s.loading
   pub nodes_stand : NodesStand farm.nodes.items s.nodes s.logs
-  pub count : length farm.slots.items ≡ 36
-  pub slots_stand : (k : ℕ) (d : Slot) → 0 < k → k ≤ 35 → SlotStands (slice_index_or farm.slots.items k d) k s
+  pub count : length farm.slots.items ≡ ACTOR_LIMIT + 1
+  pub slots_stand : (k : ℕ) (d : Slot) → 0 < k → k ≤ ACTOR_LIMIT → SlotStands (slice_index_or farm.slots.items k d) k s
 
 -- an event was answered, or nothing came to pass
 abbrev pub StepsTo : State → Event → Result Answer Memory → (State → Type 0) → Type 0
@@ -46,7 +47,7 @@ StepsTo s e (Ok x) P = (later : State) × Steps s e x later × P later
 StepsTo s e (Err m) P = P s
 
 -- one entry behind each node's list
-abbrev pub AddsEach : (Plain → Entry) → List Node → List Node → Type 0
+abbrev pub AddsEach : (NodeState → Entry) → List Node → List Node → Type 0
 AddsEach entry nodes later = (n : ℕ) → n < length nodes → Adds (plains nodes n) (entry (plains nodes n)) (plains later n)
 
 -- the actor has no transaction open, and the number is the next
@@ -64,5 +65,5 @@ RunsTo s events answers P = (later : State) × Runs s events answers later × P 
 
 -- no actor has begun
 pub record AreNew (slots : List Slot) : Type 0 where
-  pub count : length slots ≡ 36
-  pub each : (k : ℕ) (d : Slot) → k < 36 → ((slice_index_or slots k d).begins ≡ 0) × ((slice_index_or slots k d).open ≡ None)
+  pub count : length slots ≡ ACTOR_LIMIT + 1
+  pub each : (k : ℕ) (d : Slot) → k ≤ ACTOR_LIMIT → ((slice_index_or slots k d).begins ≡ 0) × ((slice_index_or slots k d).open ≡ None)

@@ -1,5 +1,6 @@
 -- The machine of the core: what each event is answered in a state, and the state that it leaves.
 use Rattle.std.specs.Prelude.{◌≡◌, ℕ, ◌+◌, ◌*◌, ◌-◌, ◌^◌, ◌%◌, ◌<◌, ◌≤◌, ◌==◌, nat_lt, max, cond, Bool, true, false, ◌||◌, List, [], ◌∷◌, ◌++◌, length, Option, Some, None, Result, Ok, Err, ◌⊎◌}
+use Rattle.a1_base.specs.declared.limits.TheConstants.{ACTOR_LIMIT, COLLECTOR_ACTOR, LAST_STAMP, OBJECT_LIMIT, OPENING_STAMP}
 use Rattle.a1_base.specs.declared.place.Addr.{Addr}
 use Rattle.a1_base.specs.declared.place.TxnId.{TxnId}
 use Rattle.object_region.specs.Occupancy.{width, region_count, same_addr, LeastFree, IsSpent}
@@ -12,7 +13,7 @@ use Rattle.farm_node.specs.declared.entry.CheckFault.TheVariants.{Held as HeldFa
 use Rattle.farm_node.specs.declared.entry.Entry.{Entry}
 use Rattle.farm_node.specs.declared.entry.Entry.TheVariants.{Made, Open, Shut as ShutEntry, Read as ReadEntry, Alloc as AllocEntry, Lock as LockEntry, Check as CheckEntry, Put as PutEntry, Unlock as UnlockEntry, Collect as CollectEntry}
 use Rattle.farm_node.specs.Cell.{Bytes, same_txn, read_answer, lock_answer, check_answer}
-use Rattle.farm_node.specs.Plain.{Plain, occupancy, collect_answer, HeldBy, MayLock, replay}
+use Rattle.farm_node.specs.NodeState.{NodeState, occupancy, collect_answer, HeldBy, MayLock, replay}
 use Rattle.farm_core.specs.declared.event.Event.{Event}
 use Rattle.farm_core.specs.declared.event.Event.TheVariants.{Load, Begin, Read, Alloc, Lock, Draw, Check, Put, Unlock, Shut, Collect}
 use Rattle.farm_core.specs.declared.event.Answer.{Answer}
@@ -79,11 +80,11 @@ pub record State : Type 0 where
 
 -- 35 actors use the core, and what is loaded has the stamp 1
 abbrev pub start_of : ℕ → ℕ → Start
-start_of nodes node = record { node = node; nodes = nodes; actors = 35; stamp = 1; heap = [] }
+start_of nodes node = record { node = node; nodes = nodes; actors = ACTOR_LIMIT; stamp = OPENING_STAMP; heap = [] }
 
 abbrev pub fresh : ℕ → State
 fresh nodes = record {
-  clock = 1;
+  clock = OPENING_STAMP;
   nodes = nodes;
   logs = λ n. Made (start_of nodes n) ∷ [];
   begins = λ k. 0;
@@ -97,10 +98,10 @@ home s a = a.region % s.nodes
 
 -- the plain state of a node, and of an address's node
 
-abbrev pub node_at : State → ℕ → Plain
+abbrev pub node_at : State → ℕ → NodeState
 node_at s n = replay (s.logs n)
 
-abbrev pub node_of : State → Addr → Plain
+abbrev pub node_of : State → Addr → NodeState
 node_of s a = node_at s (home s a)
 
 -- one entry more behind one node's list
@@ -192,8 +193,8 @@ Locks s t a r new (Err fault) = Gives (fault_answer fault) (moving t (in_stage R
 -- the clock ends at 2^62 - 1
 abbrev pub Draws : State → TxnId → Answer → State → Type 0
 Draws s t answer next =
-    ((s.clock < 2 ^ 62 - 1) × Gives (Stamp (s.clock + 1)) (moving t (drawn_at (s.clock + 1)) (record s { clock = s.clock + 1 })) answer next)
-    ⊎ ((s.clock ≡ 2 ^ 62 - 1) × Gives Spent (moving t (in_stage Refused) s) answer next)
+    ((s.clock < LAST_STAMP) × Gives (Stamp (s.clock + 1)) (moving t (drawn_at (s.clock + 1)) (record s { clock = s.clock + 1 })) answer next)
+    ⊎ ((s.clock ≡ LAST_STAMP) × Gives Spent (moving t (in_stage Refused) s) answer next)
 
 abbrev pub Checks : State → TxnId → Addr → ℕ → ℕ → Result (Unit {0}) CheckFault → Answer → State → Type 0
 Checks s t a r w (Ok same) = Gives Same (moving t (with_same a) (adding (home s a) (CheckEntry t a r w (Ok same)) s))
@@ -201,7 +202,7 @@ Checks s t a r w (Err fault) = Gives (fault_answer fault) (moving t (in_stage Re
 
 -- the collector's entries bear the actor 34, and its proposal is the clock
 abbrev pub Collects : State → ℕ → Removed → Answer → State → Type 0
-Collects s n removed = Gives (Collected removed.floor removed.versions removed.objects) (loading_over (adding n (CollectEntry 34 s.clock removed) s))
+Collects s n removed = Gives (Collected removed.floor removed.versions removed.objects) (loading_over (adding n (CollectEntry COLLECTOR_ACTOR s.clock removed) s))
 
 abbrev pub Acts : State → Event → Answer → State → Type 0
 Acts s (Load a bytes) = Gives Loaded (record s { logs = set_log (home s a) (log_loaded a bytes (s.logs (home s a))) s.logs })
@@ -223,13 +224,13 @@ abbrev pub Steps : State → Event → Answer → State → Type 0
 Steps s e answer next = (Meets s e × Acts s e answer next) ⊎ ((Meets s e → ⊥) × Gives No s answer next)
 
 abbrev pub IsActor : TxnId → Type 0
-IsActor t = (0 < t.actor) × (t.actor ≤ 35)
+IsActor t = (0 < t.actor) × (t.actor ≤ ACTOR_LIMIT)
 
 abbrev pub IsAddr : ℕ → Addr → Type 0
 IsAddr nodes a = (a.region < region_count * nodes) × (a.offset < width)
 
 abbrev pub IsObject : Bytes → Type 0
-IsObject bytes = (0 < length bytes) × (length bytes ≤ 65536)
+IsObject bytes = (0 < length bytes) × (length bytes ≤ OBJECT_LIMIT)
 
 abbrev pub IsNew : Option Bytes → Type 0
 IsNew None = Unit {0}

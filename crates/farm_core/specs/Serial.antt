@@ -1,14 +1,16 @@
 -- What holds in every run of the core: its reads, the serial order of its transactions, and their snapshots.
 use Rattle.std.specs.Prelude.{◌≡◌, ℕ, ◌<◌, ◌≤◌, true, List, ◌∷◌, ◌++◌, Option, Some, None, Ok, ◌⊎◌}
+use Rattle.a1_base.specs.declared.limits.TheConstants.{NODE_LIMIT}
 use Rattle.a1_base.specs.declared.place.Addr.{Addr}
 use Rattle.a1_base.specs.declared.place.TxnId.{TxnId}
 use Rattle.farm_node.specs.declared.entry.Found.{Found}
 use Rattle.farm_node.specs.declared.entry.Entry.{Entry}
 use Rattle.farm_node.specs.declared.entry.Entry.TheVariants.{Read as ReadEntry}
 use Rattle.farm_node.specs.Cell.{Bytes, found_at}
-use Rattle.farm_node.specs.Plain.{Lawful}
-use Rattle.farm_node.specs.Story.{Installed, story, seen, value_at}
-use Rattle.farm_node.specs.Laws.{Among, versions_at}
+use Rattle.farm_node.specs.NodeState.{Lawful}
+use Rattle.farm_node.specs.Story.{Installed, story, value_at, stamped_bytes}
+use Rattle.farm_node.specs.Laws.{versions_at}
+use Rattle.a1_base.specs.Lists.{IsAmong}
 use Rattle.farm_core.specs.declared.event.Event.{Event}
 use Rattle.farm_core.specs.declared.event.Event.TheVariants.{Read}
 use Rattle.farm_core.specs.declared.event.Answer.{Answer}
@@ -17,7 +19,7 @@ use Rattle.farm_core.specs.Machine.{Installing, State, home, node_at, HoldsLock,
 
 -- P holds of the events of every run, of their answers, and of the state that they leave
 abbrev pub InEveryRun : (List Event → List Answer → State → Type 0) → Type 0
-InEveryRun P = (nodes : ℕ) (events : List Event) (answers : List Answer) (s : State) → 0 < nodes → nodes ≤ 16 → Runs (fresh nodes) events answers s → P events answers s
+InEveryRun P = (nodes : ℕ) (events : List Event) (answers : List Answer) (s : State) → 0 < nodes → nodes ≤ NODE_LIMIT → Runs (fresh nodes) events answers s → P events answers s
 
 -- the list of an address's node
 abbrev pub log_of : State → Addr → List Entry
@@ -44,7 +46,7 @@ pub record ReadsWhole (events : List Event) (answers : List Answer) (s : State) 
   pub answered : EachAnswer (AnswerStands s) events answers
   -- every value in a read's entry
   pub entered : (n k r : ℕ) (a : Addr) (found : Found) (before rest : List Entry) → n < s.nodes → s.logs n ≡ before ++ ReadEntry k a r (Ok found) ∷ rest
-      → ValueStands (s.logs n) a r (seen found)
+      → ValueStands (s.logs n) a r (stamped_bytes found)
 
 -- it has begun to install, and nothing is left to install
 abbrev pub HasInstalled : State → TxnId → Type 0
@@ -62,9 +64,9 @@ pub record SerialOrder (s : State) : Type 0 where
   -- the read stamp is below the write stamp
   pub later : (t : TxnId) → HasInstalled s t → (s.transactions t).read_stamp < (s.transactions t).write_stamp
   -- every put of an actor is at the write stamp of its transaction
-  pub puts : (a : Addr) (i : Installed) → Among i (story a (log_of s a)).puts → 0 < i.by.actor → i.stamp ≡ (s.transactions i.by).write_stamp
+  pub puts : (a : Addr) (i : Installed) → IsAmong i (story a (log_of s a)).puts → 0 < i.by.actor → i.stamp ≡ (s.transactions i.by).write_stamp
   -- what it had locked it has put
-  pub installs : (t : TxnId) (a : Addr) → HasInstalled s t → (s.transactions t).had_locked a ≡ true → (i : Installed) × Among i (story a (log_of s a)).puts × (i.by ≡ t)
+  pub installs : (t : TxnId) (a : Addr) → HasInstalled s t → (s.transactions t).had_locked a ≡ true → (i : Installed) × IsAmong i (story a (log_of s a)).puts × (i.by ≡ t)
   -- what it read or had locked keeps from its read stamp to its write stamp, that one without its own put, the value at
   -- its read stamp
   pub steady : (t : TxnId) (a : Addr) (stamp : ℕ) → HasInstalled s t → HasTouched s t a → (s.transactions t).read_stamp ≤ stamp → stamp < (s.transactions t).write_stamp
@@ -73,4 +75,4 @@ pub record SerialOrder (s : State) : Type 0 where
 -- while a transaction is open, each node has of each address what stands there at each stamp from its read stamp on
 pub record SnapshotsKept (s : State) : Type 0 where
   pub kept : (t : TxnId) (n : ℕ) (a : Addr) (stamp : ℕ) → (s.transactions t).is_open ≡ true → n < s.nodes → (s.transactions t).read_stamp ≤ stamp
-      → seen (found_at stamp (versions_at (node_at s n) a)) ≡ value_at (s.logs n) a stamp
+      → stamped_bytes (found_at stamp (versions_at (node_at s n) a)) ≡ value_at (s.logs n) a stamp

@@ -1,6 +1,7 @@
 -- Which states of the machine the executable core stands for.
 use Rattle.std.specs.Prelude.{◌≡◌, ℕ, zero, suc, ◌%◌, ◌<◌, ◌≤◌, Bool, true, false, not, ◌&&◌, ◌||◌, List, [], ◌∷◌, length, Result, Ok, Err}
 use Rattle.std.specs.List.{list_any}
+use Rattle.a1_base.specs.declared.limits.TheConstants.{NODE_LIMIT}
 use Rattle.a1_base.specs.declared.Memory.{Memory}
 use Rattle.a1_base.specs.declared.place.Addr.{Addr}
 use Rattle.a1_base.specs.declared.place.TxnId.{TxnId}
@@ -14,7 +15,7 @@ use Rattle.farm_node.specs.declared.faults.ReadFault.TheVariants.{Held as ReadHe
 use Rattle.farm_node.specs.declared.faults.LockFault.{LockFault}
 use Rattle.farm_node.specs.declared.faults.LockFault.TheVariants.{Held as LockHeld, Changed as LockChanged, Memory as NoLockMemory}
 use Rattle.farm_node.specs.Cell.{same_txn}
-use Rattle.farm_node.specs.Plain.{Plain, replay, nowhere}
+use Rattle.farm_node.specs.NodeState.{NodeState, replay, nowhere}
 use Rattle.farm_node.specs.State.{holds_there, may_lock}
 use Rattle.farm_node.specs.Node.{plain_of}
 use Rattle.farm_core.specs.declared.event.Event.{Event}
@@ -28,12 +29,12 @@ use Rattle.farm_core.specs.ReadSets.{read_set, all_checked}
 
 -- some run leads there
 abbrev pub Reached : State → Type 0
-Reached s = (0 < s.nodes) × (s.nodes ≤ 16) × ((events : List Event) × (answers : List Answer) × Runs (fresh s.nodes) events answers s)
+Reached s = (0 < s.nodes) × (s.nodes ≤ NODE_LIMIT) × ((events : List Event) × (answers : List Answer) × Runs (fresh s.nodes) events answers s)
 
 -- nodes
 
 -- the plain state of each node
-abbrev pub plains : List Node → ℕ → Plain
+abbrev pub plains : List Node → ℕ → NodeState
 plains [] n = nowhere
 plains (x ∷ xs) zero = plain_of x
 plains (x ∷ xs) (suc n) = plains xs n
@@ -47,7 +48,7 @@ pub record NodesStand (nodes : List Node) (count : ℕ) (logs : ℕ → List Ent
 abbrev pub home_in : List Node → Addr → ℕ
 home_in nodes a = a.region % length nodes
 
-abbrev pub plain_at : List Node → Addr → Plain
+abbrev pub plain_at : List Node → Addr → NodeState
 plain_at nodes a = plains nodes (home_in nodes a)
 
 -- open transactions

@@ -9,8 +9,8 @@ ghost use Rattle.farm_core.specs.ReadSets.{read_set};
 ghost use Rattle.farm_core.specs.Standing.{Reached, StandsOpen, At, in_list, AtClock, Acted, Stepped, CanAct, CanActAt, ActsOn, IsOf, read_fault, lock_fault, is_reading, is_drawn, is_installing, holds_at, may_lock_at, meets_in};
 
 use crate::event::{Answer, Event};
-use crate::reads::Reads;
-use a1_base::{Addr, Bin, Memory, STAMP_LIMIT, TxnId};
+use crate::reads::ReadMarks;
+use a1_base::{Addr, Bin, LAST_STAMP, Memory, TxnId};
 use farm_node::{CheckFault, Found, LockFault, Node, PlaceFault, ReadFault};
 use std::alloc::Global;
 
@@ -49,7 +49,7 @@ pub struct Active {
     phase: Phase,
     read_stamp: u64,
     write_stamp: u64,
-    reads: Reads,
+    reads: ReadMarks,
     // Each address that it holds, and maybe more that it had locked.
     locked: Vec<Addr>,
 }
@@ -63,7 +63,7 @@ impl Active {
             phase: Phase::Reading,
             read_stamp: stamp,
             write_stamp: 0,
-            reads: Reads::new(alloc),
+            reads: ReadMarks::new(alloc),
             locked: Vec::new(alloc),
         }
     }
@@ -248,7 +248,7 @@ impl Active {
         requires { (nodes : List Node) × (s : State) × Reached s × AtClock self.old nodes clock.old t s × Meets s (event.Draw t) }
         ensures { (nodes : List Node) (s : State) → Reached s → AtClock self.old nodes clock.old t s → Meets s (event.Draw t) → Acted t s (event.Draw t) (Ok result) (AtClock self.new nodes clock.new t) }
     {
-        if *clock == STAMP_LIMIT - 1 {
+        if *clock == LAST_STAMP {
             self.phase = Phase::Refused;
             return Answer::Spent;
         }

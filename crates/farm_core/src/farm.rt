@@ -1,7 +1,8 @@
 //! The farm: its nodes, its clock and its transactions.
 ghost use Rattle.std.specs.Prelude.{◌≡◌, ◌+◌, ◌<◌, ◌≤◌, ℕ, [], max, take, None, Ok, IfOk, OnOk, All, length, vec_capacity};
+ghost use Rattle.a1_base.specs.declared.limits.TheConstants.{NODE_LIMIT};
 ghost use Rattle.farm_node.specs.declared.entry.Entry.TheVariants.{Open as OpenEntry, Shut as ShutEntry};
-ghost use Rattle.farm_node.specs.Plain.{IsStamp};
+ghost use Rattle.a1_base.specs.Stamps.{IsStamp};
 ghost use Rattle.farm_core.specs.declared.event.Event.TheVariants as event;
 ghost use Rattle.farm_core.specs.Machine.{State, InRange, Meets, IsActor, IsAddr, IsObject, fresh};
 ghost use Rattle.farm_core.specs.Standing.{Reached, NodesStand, IsOf, Stepped, plains};
@@ -9,12 +10,9 @@ ghost use Rattle.farm_core.specs.Farms.{SlotAt, Stands, StepsTo, RunsTo, AreNew,
 
 use crate::active::{Active, home};
 use crate::event::{Answer, Event};
-use a1_base::{Addr, Bin, Memory, TxnId};
+use a1_base::{ACTOR_LIMIT, Addr, Bin, Memory, OPENING_STAMP, TxnId};
 use farm_node::Node;
 use std::alloc::Global;
-
-// How many actors use the farm.
-const ACTORS: u32 = 35;
 
 /// What the farm knows of one actor: how often it began, and its open transaction.
 #[derive(Drop)]
@@ -86,7 +84,7 @@ impl Farm {
     /// The farm of this many nodes, before any event. `Memory` comes for want of memory alone.
     pub fn new(alloc: Global, nodes: u32) -> Result<Farm, Memory>
         requires some { 0 < nodes }
-        requires few { nodes ≤ 16 }
+        requires few { nodes ≤ NODE_LIMIT }
         ensures { IfOk result (λ farm. Stands farm (fresh nodes)) }
     {
         Ok(Farm {
@@ -229,12 +227,12 @@ impl Farm {
 
 // The nodes, without objects.
 fn new_nodes(alloc: Global, count: u32) -> Result<Vec<Node>, Memory>
-    requires { count ≤ 16 }
+    requires { count ≤ NODE_LIMIT }
     ensures { IfOk result (λ nodes. NodesStand nodes.items count (fresh count).logs) }
 {
     let mut nodes = Vec::with_capacity(alloc, count as usize)?;
     for number in 0..count {
-        let node = Node::new(alloc, number, count, ACTORS, 1)?;
+        let node = Node::new(alloc, number, count, ACTOR_LIMIT, OPENING_STAMP)?;
         nodes.push_reserved(node);
     }
     Ok(nodes)
@@ -244,8 +242,8 @@ fn new_nodes(alloc: Global, count: u32) -> Result<Vec<Node>, Memory>
 fn new_slots(alloc: Global) -> Result<Vec<Slot>, Memory>
     ensures { IfOk result (λ slots. AreNew slots.items) }
 {
-    let mut slots = Vec::with_capacity(alloc, ACTORS as usize + 1)?;
-    for _ in 0..ACTORS + 1 {
+    let mut slots = Vec::with_capacity(alloc, ACTOR_LIMIT as usize + 1)?;
+    for _ in 0..ACTOR_LIMIT + 1 {
         slots.push_reserved(Slot {
             begins: 0,
             open: None,

@@ -9,19 +9,19 @@ use std::collections::BTreeSet;
 
 /// The addresses that a transaction has read, and which of them it at no time locked nor found the same.
 #[derive(Drop)]
-pub struct Reads {
+pub struct ReadMarks {
     read: BTreeSet<Addr>,
     unchecked: BTreeSet<Addr>,
 }
 
-impl Reads {
+impl ReadMarks {
     ghost use Rattle.farm_core.specs.ReadSets.{read_set, all_checked};
 
     /// No address.
-    pub fn new(alloc: Global) -> Reads
+    pub fn new(alloc: Global) -> ReadMarks
         ensures { read_set result ≡ nothing_read }
     {
-        Reads {
+        ReadMarks {
             read: BTreeSet::new(alloc),
             unchecked: BTreeSet::new(alloc),
         }

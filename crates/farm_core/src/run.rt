@@ -1,5 +1,6 @@
 //! The core: the machine of events, as it runs.
 ghost use Rattle.std.specs.Prelude.{◌≡◌, ◌<◌, ◌≤◌, ℕ, IfOk, OnErr, OnOk, All, length};
+ghost use Rattle.a1_base.specs.declared.limits.TheConstants.{NODE_LIMIT};
 ghost use Rattle.farm_core.specs.Machine.{State, InRange, Runs, fresh};
 ghost use Rattle.farm_core.specs.Cores.{CoreStands, RanFront, node_count, counted_on};
 
@@ -36,7 +37,7 @@ impl Core {
     /// The core of 1 to 16 nodes, before any event. `Memory` comes for want of memory alone.
     pub fn new(alloc: Global, nodes: u32) -> Result<Core, Memory>
         requires some { 0 < nodes }
-        requires few { nodes ≤ 16 }
+        requires few { nodes ≤ NODE_LIMIT }
         ensures stands { IfOk result (λ core. CoreStands core (fresh nodes)) }
         ensures nodes { IfOk result (λ core. node_count core ≡ nodes) }
         ensures done { IfOk result (λ core. core.done ≡ 0) }

@@ -12,7 +12,8 @@ use Rattle.farm_node.specs.declared.entry.CheckFault.TheVariants.{Held, Changed}
 use Rattle.farm_node.specs.declared.entry.Entry.{Entry}
 use Rattle.farm_node.specs.declared.entry.Entry.TheVariants.{Made, Open, Shut, Read, Alloc, Lock, Check, Put, Unlock, Collect}
 use Rattle.farm_node.specs.Cell.{Bytes, Cell, found_of, found_at, read_answer, unless_changed, lock_given, lock_answer, check_answer, same_txn}
-use Rattle.farm_node.specs.Plain.{IsStamp, Plain, Fits, Lawful, replay}
+use Rattle.farm_node.specs.NodeState.{NodeState, Fits, Lawful, replay}
+use Rattle.a1_base.specs.Stamps.{IsStamp}
 use Rattle.farm_node.specs.Locks.{StampsBelow, AnswersStamps}
 use Rattle.farm_node.proofs.Sound.{Here, Sits, Sound, sound, less_max}
 use Rattle.farm_node.proofs.Stories.{Stands, stands}
@@ -58,7 +59,7 @@ module _ (regions : List ℕ) (a : Addr) where
     by None = unless_changed_is (λ z. AnswersStamps (Check t a r w z)) r c tt (found_stamp r c.versions sits.versions, newest_stamp c.versions sits.versions) tt
     by (Some h) = tt
 
-fits_stamps : (p : Plain) (e : Entry) → Sound p → Fits p e → AnswersStamps e
+fits_stamps : (p : NodeState) (e : Entry) → Sound p → Fits p e → AnswersStamps e
 fits_stamps p (Made m) t fits = tt
 fits_stamps p (Open k c x) t fits = subst (λ (z : ℕ). IsStamp z) (sym fits.4) (less_max c p.floor _ fits.3 t.floor)
 fits_stamps p (Shut k) t fits = tt

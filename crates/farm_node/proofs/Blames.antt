@@ -13,9 +13,11 @@ use Rattle.farm_node.specs.declared.entry.CheckFault.TheVariants.{Held, Changed}
 use Rattle.farm_node.specs.declared.entry.Entry.{Entry}
 use Rattle.farm_node.specs.declared.entry.Entry.TheVariants.{Made, Read, Alloc, Lock, Check}
 use Rattle.farm_node.specs.Cell.{Bytes, Cell, found_at, read_answer, unless_changed, lock_given, lock_answer, check_answer, same_txn, loaded_cell}
-use Rattle.farm_node.specs.Plain.{PinnedBy, FitsLock, FitsCheck, loaded_cells, begun, Lawful, replay}
+use Rattle.farm_node.specs.NodeState.{PinnedBy, FitsLock, FitsCheck, loaded_cells, begun, Lawful, replay}
 use Rattle.farm_node.specs.Story.{Installed, Story, story, story_from, untold, loaded_puts}
-use Rattle.farm_node.specs.Laws.{Each, Among, versions_there}
+use Rattle.farm_node.specs.Laws.{versions_there}
+use Rattle.a1_base.specs.Lists.{IsAmong}
+use Rattle.std.specs.List.{AllByRecursion}
 use Rattle.farm_node.specs.Locks.{Takes, BlamesHolder, BlamesPut, LocksHold, RangesHold}
 use Rattle.farm_node.proofs.Sound.{Here, Sits, PinOk, sound_begun, sound_end, pinned}
 use Rattle.farm_node.proofs.Steps.{Keeps, keeps_all}
@@ -29,7 +31,7 @@ use Rattle.farm_node.proofs.Answered.{answered}
 
 abbrev TookBy : Addr → List Entry → Option Hold → Type 0
 TookBy a log None = Unit {0}
-TookBy a log (Some k) = (d : Entry) × Among d log × Takes k.by a d
+TookBy a log (Some k) = (d : Entry) × IsAmong d log × Takes k.by a d
 
 abbrev TookAt : Addr → List Entry → Option Cell → Type 0
 TookAt a log None = Unit {0}
@@ -38,7 +40,7 @@ TookAt a log (Some c) = TookBy a log c.lock
 record Took (a : Addr) (log : List Entry) (c : Option Cell) (past floor : ℕ) (h : Story) : Type 0 where
   took : TookAt a log c
 
-took : (a : Addr) (log : List Entry) → Keeps a (λ e. Among e log) (Took a log)
+took : (a : Addr) (log : List Entry) → Keeps a (λ e. IsAmong e log) (Took a log)
 took a log = record {
   aside = λ c past past' floor h le t. record { took = t.took };
   looked = λ c s past floor h free t. record { took = t.took };
@@ -52,11 +54,11 @@ took a log = record {
   none = λ past past' floor floor' h le more t. record { took = tt };
 }
 
-among_more : (log : List Entry) (e : Entry) (es : List Entry) → Each (λ d. Among d log) es → Each (λ d. Among d (e ∷ log)) es
+among_more : (log : List Entry) (e : Entry) (es : List Entry) → AllByRecursion (λ d. IsAmong d log) es → AllByRecursion (λ d. IsAmong d (e ∷ log)) es
 among_more log e [] t = tt
 among_more log e (d ∷ ds) t = (inr t.0, among_more log e ds t.1)
 
-among_self : (log : List Entry) → Each (λ d. Among d log) log
+among_self : (log : List Entry) → AllByRecursion (λ d. IsAmong d log) log
 among_self [] = tt
 among_self (e ∷ es) = (inl refl, among_more es e es (among_self es))
 
@@ -70,7 +72,7 @@ took_begun a log stamp (x ∷ xs) = by (same_addr x.0 a) (took_begun a log stamp
 took_end : (a : Addr) (log : List Entry) → Lawful log → TookAt a log ((replay log).cells a)
 took_end a [] lawful = absurd lawful
 took_end a (Made m ∷ es) lawful =
-    (keeps_all a (λ e. Among e (Made m ∷ es)) (Took a (Made m ∷ es)) (took a (Made m ∷ es)) (begun m) untold es (sound_begun m lawful.0) lawful.1
+    (keeps_all a (λ e. IsAmong e (Made m ∷ es)) (Took a (Made m ∷ es)) (took a (Made m ∷ es)) (begun m) untold es (sound_begun m lawful.0) lawful.1
     (among_self (Made m ∷ es)).1 record { took = took_begun a (Made m ∷ es) m.stamp m.heap }).took
 took_end a (e ∷ es) lawful = absurd lawful
 
@@ -118,12 +120,12 @@ module _ (t : TxnId) where
     by None is due = absurd (not_changed r c tt due)
     by (Some k) is due = (c, k, refl, is, (let e : Err (Held t) ≡ Err (Held k.by) = due in cc))
 
-took_by : (a : Addr) (log : List Entry) (t : TxnId) → Lawful log → HeldBecause t ((replay log).cells a) → (d : Entry) × Among d log × Takes t a d
+took_by : (a : Addr) (log : List Entry) (t : TxnId) → Lawful log → HeldBecause t ((replay log).cells a) → (d : Entry) × IsAmong d log × Takes t a d
 took_by a log t lawful why =
-    subst (λ (u : TxnId). (d : Entry) × Among d log × Takes u a d) why.4
+    subst (λ (u : TxnId). (d : Entry) × IsAmong d log × Takes u a d) why.4
     (subst (λ (l : Option Hold). TookBy a log l) why.3 (subst (λ (c : Option Cell). TookAt a log c) why.2 (took_end a log lawful)))
 
-holder : (before rest : List Entry) (e : Entry) (t : TxnId) (a : Addr) → Lawful (before ++ e ∷ rest) → BlamesHolder t a e → (d : Entry) × Among d before × Takes t a d
+holder : (before rest : List Entry) (e : Entry) (t : TxnId) (a : Addr) → Lawful (before ++ e ∷ rest) → BlamesHolder t a e → (d : Entry) × IsAmong d before × Takes t a d
 holder before rest (Read k b s (Err by)) t a lawful blames =
     let x : Stands a before (Read k b s (Err by) ∷ rest) = stands a before (Read k b s (Err by)) rest tt lawful in
     took_by a before t x.begins (read_held t s ((replay before).cells a) (ap Err (sym blames.1) ∙ (x.lawful.0.2 ∙ ap (λ (z : Addr). read_answer s ((replay before).cells z)) blames.0)))
@@ -173,9 +175,9 @@ module _ (seen now : ℕ) where
     by (Some k) due = cc
 
 abbrev PutBecause : ℕ → ℕ → List Installed → Type 0
-PutBecause r now puts = (i : Installed) × Among i puts × (i.stamp ≡ now) × (r < now) × (0 < i.by.actor)
+PutBecause r now puts = (i : Installed) × IsAmong i puts × (i.stamp ≡ now) × (r < now) × (0 < i.by.actor)
 
-among_first : (i : Installed) (xs ys : List Installed) → Among i xs → Among i (xs ++ ys)
+among_first : (i : Installed) (xs ys : List Installed) → IsAmong i xs → IsAmong i (xs ++ ys)
 among_first i [] ys there = absurd there
 among_first i (x ∷ xs) ys there = ⊎_elim (λ is. inl is) (λ more. inr (among_first i xs ys more)) there
 
@@ -190,12 +192,12 @@ newest_put a k r now (Made m ∷ es) lawful pin why =
     ⊎_elim
     (λ (old : newest (versions_there ((replay (Made m ∷ es)).cells a)) ≤ (replay (Made m ∷ es)).floor). absurd (omega arith))
     (λ (put : PutAt (newest (versions_there ((replay (Made m ∷ es)).cells a))) (story_from a untold es).puts).
-    (put.0, subst (λ (puts : List Installed). Among put.0 puts) (sym (loaded m es a lawful)) (among_first put.0 (story_from a untold es).puts (loaded_puts a m.stamp m.heap) put.1), put.2 ∙ top, above, (l.puts put.0 put.1).0))
+    (put.0, subst (λ (puts : List Installed). IsAmong put.0 puts) (sym (loaded m es a lawful)) (among_first put.0 (story_from a untold es).puts (loaded_puts a m.stamp m.heap) put.1), put.2 ∙ top, above, (l.puts put.0 put.1).0))
     l.newest
 newest_put a k r now (e ∷ es) lawful pin why = absurd lawful
 
 change : (before rest : List Entry) (e : Entry) (r now : ℕ) (a : Addr) → Lawful (before ++ e ∷ rest) → BlamesPut r now a e
-    → (i : Installed) × Among i (story a before).puts × (i.stamp ≡ now) × (r < now) × (0 < i.by.actor)
+    → (i : Installed) × IsAmong i (story a before).puts × (i.stamp ≡ now) × (r < now) × (0 < i.by.actor)
 change before rest (Lock u b q new (Err (Changed s n))) r now a lawful blames =
     let x : Stands a before (Lock u b q new (Err (Changed s n)) ∷ rest) = stands a before (Lock u b q new (Err (Changed s n))) rest tt lawful in
     let fits : FitsLock (replay before) u b q (Err (Changed s n)) = x.lawful.0 in

@@ -9,7 +9,7 @@ use Rattle.a1_base.specs.declared.place.Addr.{Addr}
 use Rattle.object_region.specs.Occupancy.{addr_order, same_addr, Occupancy, vacant, with_place, without_place}
 use Rattle.farm_node.specs.declared.hold.Hold.{Hold}
 use Rattle.farm_node.specs.Cell.{Cell, raised_to, past_raised, is_open, is_single, is_settled}
-use Rattle.farm_node.specs.Plain.{Plain, set_cell, looked_at}
+use Rattle.farm_node.specs.NodeState.{NodeState, set_cell, looked_at}
 use Rattle.farm_node.specs.State.{cells_of, plain_from, AgreesWith, IsTracked, settled_there, with_cell, given_back}
 use Rattle.farm_node.proofs.Addresses.{addr_eq}
 
@@ -123,7 +123,7 @@ pub looked_there : (objects later : BTreeMap Addr Cell) (places : Occupancy) (pi
     → Some c ≡ cells_of objects a → cells_of later ≡ set_cell a (Some w) (cells_of objects) → w ≡ record c { bound = max c.bound s }
     → plain_from later places pins past floor actors ≡ looked_at a s (plain_from objects places pins past floor actors)
 looked_there objects later places pins past floor actors a s c w there e is =
-    let p : Plain = plain_from objects places pins past floor actors in
+    let p : NodeState = plain_from objects places pins past floor actors in
     (λ i. record p { cells = e i })
     ∙ ((λ i. record p { cells = set_cell a (Some (is i)) p.cells })
     ∙ (λ i. record p { cells = set_cell a (raised_to s (there i)) p.cells; past = past_raised s (there i) p.past }))
@@ -132,7 +132,7 @@ looked_there objects later places pins past floor actors a s c w there e is =
 pub looked_nowhere : (objects : BTreeMap Addr Cell) (places : Occupancy) (pins : List (Option ℕ)) (past floor actors : ℕ) (a : Addr) (s : ℕ)
     → None ≡ cells_of objects a → plain_from objects places pins (max past s) floor actors ≡ looked_at a s (plain_from objects places pins past floor actors)
 looked_nowhere objects places pins past floor actors a s none =
-    let p : Plain = plain_from objects places pins past floor actors in
+    let p : NodeState = plain_from objects places pins past floor actors in
     (λ i. record p { cells = λ b. unset b (same_addr a b) refl i; past = max past s })
     ∙ (λ i. record p { cells = set_cell a (raised_to s (none i)) p.cells; past = past_raised s (none i) p.past }) where
       unset : (b : Addr) (g : Bool) → same_addr a b ≡ g → cells_of objects b ≡ cond g None (cells_of objects b)
@@ -211,6 +211,6 @@ pub none_given_back : (objects later : BTreeMap Addr Cell) (places : Occupancy) 
     → None ≡ cells_of objects a → cells_of later ≡ set_cell a None (cells_of objects)
     → plain_from later places pins past floor actors ≡ given_back a (plain_from objects places pins past floor actors)
 none_given_back objects later places pins past floor actors a none e =
-    let p : Plain = plain_from objects places pins past floor actors in
+    let p : NodeState = plain_from objects places pins past floor actors in
     plain_same objects later places places pins past floor actors (e ∙ unset a (cells_of objects) (sym none)) refl
-    ∙ (λ i. elim (none i) as (λ _. Plain) [ None ↦ p | Some c ↦ record p { cells = set_cell a None p.cells; past = max p.past c.bound } ])
+    ∙ (λ i. elim (none i) as (λ _. NodeState) [ None ↦ p | Some c ↦ record p { cells = set_cell a None p.cells; past = max p.past c.bound } ])

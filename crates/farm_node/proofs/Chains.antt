@@ -3,8 +3,8 @@ use Rattle.std.proofs.Common.{◌≡◌, ℕ, ◌<◌, ◌≤◌, nat_le, cond, 
 use Rattle.std.proofs.lemmas.Bool.{le-leb, lt-leb, leb-true}
 use Rattle.version_chain.specs.Versions.{Version, version_at, newest, cut, Falls}
 use Rattle.farm_node.specs.Cell.{Bytes, found_of, found_at, is_absent, is_gone}
-use Rattle.farm_node.specs.Story.{Installed, version_of, versions_of, seen}
-use Rattle.farm_node.specs.Laws.{Among}
+use Rattle.farm_node.specs.Story.{Installed, version_of, versions_of, stamped_bytes}
+use Rattle.a1_base.specs.Lists.{IsAmong}
 use Rattle.farm_node.proofs.Addresses.{and_left, and_right}
 
 -- versions
@@ -31,13 +31,13 @@ newest_cut floor [] = refl
 newest_cut floor (v ∷ vs) = elim (nat_le v.0 floor) as (λ g. newest (cond g (v ∷ []) (v ∷ cut floor vs)) ≡ v.0) [ true ↦ refl | false ↦ refl ]
 
 -- what goes is absent from the floor on
-pub gone_at : (floor s : ℕ) (vs : List Version) → floor ≤ s → is_gone floor vs ≡ true → (seen (found_at s vs) ≡ None) × (newest vs ≤ floor)
+pub gone_at : (floor s : ℕ) (vs : List Version) → floor ≤ s → is_gone floor vs ≡ true → (stamped_bytes (found_at s vs) ≡ None) × (newest vs ≤ floor)
 gone_at floor s [] le gone = cc
 gone_at floor s (v ∷ vs) le gone =
     let low : v.0 ≤ floor = leb-true v.0 floor (and_left _ _ gone) in
     let here : v.0 ≤ s = omega arith in
-    (ap (λ (x : Option Version). seen (found_of x)) (taken_at s v vs here) ∙ absent v.0 v.1 (and_right _ _ gone), low) where
-      absent : (n : ℕ) (x : Option Bytes) → is_absent x ≡ true → seen (found_of (Some (n, x))) ≡ None
+    (ap (λ (x : Option Version). stamped_bytes (found_of x)) (taken_at s v vs here) ∙ absent v.0 v.1 (and_right _ _ gone), low) where
+      absent : (n : ℕ) (x : Option Bytes) → is_absent x ≡ true → stamped_bytes (found_of (Some (n, x))) ≡ None
       absent n None e = refl
       absent n (Some y) e = cc
 
@@ -68,7 +68,7 @@ abbrev pub Decided : List Installed → Type 0
 Decided [] = Unit {0}
 Decided (i ∷ is) = BelowAll i.read is × Decided is
 
-falls_below : (n : ℕ) (puts : List Installed) (i : Installed) → newest (versions_of puts) < n → Falls (versions_of puts) → Among i puts → i.stamp < n
+falls_below : (n : ℕ) (puts : List Installed) (i : Installed) → newest (versions_of puts) < n → Falls (versions_of puts) → IsAmong i puts → i.stamp < n
 falls_below n [] i low falls there = absurd there
 falls_below n (j ∷ js) i low falls there = ⊎_elim
     (λ (is : j ≡ i). let e : j.stamp ≡ i.stamp = ap (λ (z : Installed). z.stamp) is in let l : j.stamp < n = low in omega arith)
@@ -76,7 +76,7 @@ falls_below n (j ∷ js) i low falls there = ⊎_elim
     there
 
 -- from its read stamp to its own stamp a put has the value at its read stamp before it
-pub decided_at : (puts : List Installed) (i : Installed) (s : ℕ) → Falls (versions_of puts) → Decided puts → Among i puts → i.read ≤ s → s < i.stamp
+pub decided_at : (puts : List Installed) (i : Installed) (s : ℕ) → Falls (versions_of puts) → Decided puts → IsAmong i puts → i.read ≤ s → s < i.stamp
     → version_at s (versions_of puts) ≡ version_at i.read (versions_of puts)
 decided_at [] i s falls decided there low high = absurd there
 decided_at (j ∷ js) i s falls decided there low high =

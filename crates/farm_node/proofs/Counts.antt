@@ -5,7 +5,7 @@ use Rattle.std.specs.BTreeMap.{BTreeMap, IsOrdered, btree_map_len, values}
 use Rattle.a1_base.specs.declared.place.Addr.{Addr}
 use Rattle.object_region.specs.Occupancy.{addr_order, Rises}
 use Rattle.farm_node.specs.Cell.{Cell, objects_in, versions_in}
-use Rattle.farm_node.specs.Plain.{Plain, places, total, counted, object_count, version_count}
+use Rattle.farm_node.specs.NodeState.{NodeState, places, total, counted, object_count, version_count}
 use Rattle.farm_node.specs.State.{cells_of}
 use Rattle.farm_node.proofs.Totals.{sum_of, total_entries}
 use Rattle.farm_node.proofs.Sweeping.{IsPlaced}
@@ -22,18 +22,18 @@ sum_ones : (es : List (Addr × Cell)) → sum_of (λ c. objects_in (Some c)) es 
 sum_ones [] = refl
 sum_ones (e ∷ es) = let rest : sum_of (λ c. objects_in (Some c)) es ≡ length es = sum_ones es in omega arith
 
-pub versions_are : (objects : BTreeMap Addr Cell) (p : Plain) → p.cells ≡ cells_of objects → IsOrdered addr_order objects → Rises p.regions → IsPlaced p → version_count p ≡ lengths (values objects)
+pub versions_are : (objects : BTreeMap Addr Cell) (p : NodeState) → p.cells ≡ cells_of objects → IsOrdered addr_order objects → Rises p.regions → IsPlaced p → version_count p ≡ lengths (values objects)
 versions_are objects p same ordered rises placed =
     ap (λ (cells : Addr → Option Cell). total versions_in cells (places p.regions)) same
     ∙ (total_entries versions_in objects p.regions refl ordered rises (λ a c is. placed a c (ap (λ (cells : Addr → Option Cell). cells a) same ∙ is)) ∙ sum_lengths objects.entries)
 
-pub objects_are : (objects : BTreeMap Addr Cell) (p : Plain) → p.cells ≡ cells_of objects → IsOrdered addr_order objects → Rises p.regions → IsPlaced p → object_count p ≡ btree_map_len objects
+pub objects_are : (objects : BTreeMap Addr Cell) (p : NodeState) → p.cells ≡ cells_of objects → IsOrdered addr_order objects → Rises p.regions → IsPlaced p → object_count p ≡ btree_map_len objects
 objects_are objects p same ordered rises placed =
     ap (λ (cells : Addr → Option Cell). total objects_in cells (places p.regions)) same
     ∙ (total_entries objects_in objects p.regions refl ordered rises (λ a c is. placed a c (ap (λ (cells : Addr → Option Cell). cells a) same ∙ is)) ∙ sum_ones objects.entries)
 
 -- nothing is counted where no region is made
-pub none_counted : (p : Plain) → p.regions ≡ [] → (object_count p ≡ 0) × (version_count p ≡ 0)
+pub none_counted : (p : NodeState) → p.regions ≡ [] → (object_count p ≡ 0) × (version_count p ≡ 0)
 none_counted p none = (ap (λ (rs : List ℕ). total objects_in p.cells (places rs)) none, ap (λ (rs : List ℕ). total versions_in p.cells (places rs)) none)
 
 pub count_begins : (left : List Cell) (all : List Cell) → left ≡ all → counted (0 + lengths left) ≡ counted (lengths all)

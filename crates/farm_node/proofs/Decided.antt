@@ -10,9 +10,10 @@ use Rattle.farm_node.specs.declared.entry.Placed.{Placed}
 use Rattle.farm_node.specs.declared.entry.Entry.{Entry}
 use Rattle.farm_node.specs.declared.entry.Entry.TheVariants.{Made, Alloc, Lock, Check, Put}
 use Rattle.farm_node.specs.Cell.{Bytes, Cell, made_by, locked_by, is_open, is_gone}
-use Rattle.farm_node.specs.Plain.{Plain, set_cell, PinnedBy, FitsLock, FitsCheck, Fits, looked_at, after, LawfulFrom, Lawful, replay}
+use Rattle.farm_node.specs.NodeState.{NodeState, set_cell, PinnedBy, FitsLock, FitsCheck, Fits, looked_at, after, LawfulFrom, Lawful, replay}
 use Rattle.farm_node.specs.Story.{Story, with_put, story_after, story_from, story_begun, story, versions_of}
-use Rattle.farm_node.specs.Laws.{Each, versions_there, Spares, PutsAt, KeepsLock, Decides, MineDecides}
+use Rattle.farm_node.specs.Laws.{versions_there, Spares, PutsAt, KeepsLock, Decides, MineDecides}
+use Rattle.std.specs.List.{AllByRecursion}
 use Rattle.farm_node.proofs.Addresses.{and_left, same_self}
 use Rattle.farm_node.proofs.Sound.{Sound, sound, pinned}
 use Rattle.farm_node.proofs.Steps.{Keeps, keeps, no_cell, check_open_at, Askable, askable, lock_low}
@@ -93,7 +94,7 @@ kept_by a t w = record {
 module _ (t : TxnId) (a : Addr) (r w : ℕ) where
   -- what comes behind
 
-  kept_spares : (p : Plain) (e : Entry) → Fits p e → Keeping t w (p.cells a) p.past → Spares t a r w e
+  kept_spares : (p : NodeState) (e : Entry) → Fits p e → Keeping t w (p.cells a) p.past → Spares t a r w e
   kept_spares p (Put u b x) fits kept = λ is other above le.
       let put = fits.0 in
       let there : p.cells a ≡ Some put.0 = ap p.cells (sym is) ∙ put.2 in
@@ -104,8 +105,8 @@ module _ (t : TxnId) (a : Addr) (r w : ℕ) where
       (subst (λ (c : Option Cell). Keeping t w c p.past) there kept)
   kept_spares p e fits kept = tt
 
-  spared_kept : (p : Plain) (h : Story) (es : List Entry) → Sound p → LawfulFrom p es → Each (PutsAt t w) es → Each (KeepsLock t a) es
-      → KeptBy t w (p.cells a) p.past p.floor h → Each (Spares t a r w) es
+  spared_kept : (p : NodeState) (h : Story) (es : List Entry) → Sound p → LawfulFrom p es → AllByRecursion (PutsAt t w) es → AllByRecursion (KeepsLock t a) es
+      → KeptBy t w (p.cells a) p.past p.floor h → AllByRecursion (Spares t a r w) es
   spared_kept p h [] s lawful puts keep k = tt
   spared_kept p h (e ∷ es) s lawful puts keep k = (
     kept_spares p e lawful.0 k.kept,
@@ -113,7 +114,7 @@ module _ (t : TxnId) (a : Addr) (r w : ℕ) where
         (keeps a (Mine t a w) (KeptBy t w) (kept_by a t w) p h e s lawful.0 (puts.0, keep.0) k),
   )
 
-  barred_spares : (p : Plain) (e : Entry) → Fits p e → Barred w (p.cells a) p.past → Spares t a r w e
+  barred_spares : (p : NodeState) (e : Entry) → Fits p e → Barred w (p.cells a) p.past → Spares t a r w e
   barred_spares p (Put u b x) fits bar = λ is other above le.
       let put = fits.0 in
       let low : w ≤ put.0.bound = subst (λ (c : Option Cell). Barred w c p.past) (ap p.cells (sym is) ∙ put.2) bar in
@@ -121,7 +122,7 @@ module _ (t : TxnId) (a : Addr) (r w : ℕ) where
       omega arith
   barred_spares p e fits bar = tt
 
-  spared_barred : (p : Plain) (h : Story) (es : List Entry) → Sound p → LawfulFrom p es → Barred w (p.cells a) p.past → Each (Spares t a r w) es
+  spared_barred : (p : NodeState) (h : Story) (es : List Entry) → Sound p → LawfulFrom p es → Barred w (p.cells a) p.past → AllByRecursion (Spares t a r w) es
   spared_barred p h [] s lawful bar = tt
   spared_barred p h (e ∷ es) s lawful bar = (
     barred_spares p e lawful.0 bar,
@@ -138,25 +139,25 @@ module _ (t : TxnId) (a : Addr) (r w : ℕ) where
     by false is low above = cc
   low_spares h e low = tt
 
-  spared_low : (h : Story) (es : List Entry) → BelowAll r (story_from a h es).puts → Each (Spares t a r w) es
+  spared_low : (h : Story) (es : List Entry) → BelowAll r (story_from a h es).puts → AllByRecursion (Spares t a r w) es
   spared_low h [] low = tt
   spared_low h (e ∷ es) low = (low_spares h e (below_before a r (story_after a h e) es low), spared_low (story_after a h e) es low)
 
-  spared_before : (before : List Entry) → Lawful before → BelowAll r (story a before).puts → Each (Spares t a r w) before
+  spared_before : (before : List Entry) → Lawful before → BelowAll r (story a before).puts → AllByRecursion (Spares t a r w) before
   spared_before [] lawful low = tt
   spared_before (Made m ∷ es) lawful low = (tt, spared_low (story_begun a m) es low)
   spared_before (e ∷ es) lawful low = absurd lawful
 
-each_append : (P : Entry → Type 0) (xs ys : List Entry) → Each P xs → Each P ys → Each P (xs ++ ys)
+each_append : (P : Entry → Type 0) (xs ys : List Entry) → AllByRecursion P xs → AllByRecursion P ys → AllByRecursion P (xs ++ ys)
 each_append P [] ys a b = b
 each_append P (x ∷ xs) ys a b = (a.0, each_append P xs ys a.1 b)
 
-each_rest : (P : Entry → Type 0) (xs : List Entry) (y : Entry) (ys : List Entry) → Each P (xs ++ y ∷ ys) → Each P ys
+each_rest : (P : Entry → Type 0) (xs : List Entry) (y : Entry) (ys : List Entry) → AllByRecursion P (xs ++ y ∷ ys) → AllByRecursion P ys
 each_rest P [] y ys t = t.1
 each_rest P (x ∷ xs) y ys t = each_rest P xs y ys t.1
 
 -- a transaction that sees no version above r sees no put above r
-pub low_puts : (a : Addr) (p : Plain) (h : Story) (k r : ℕ) → Sound p → TellsAt a p h → PinnedBy p k r → newest (versions_there (p.cells a)) ≤ r → BelowAll r h.puts
+pub low_puts : (a : Addr) (p : NodeState) (h : Story) (k r : ℕ) → Sound p → TellsAt a p h → PinnedBy p k r → newest (versions_there (p.cells a)) ≤ r → BelowAll r h.puts
 low_puts a p h k r s t pin low =
     let f : p.floor ≤ r = (pinned p k r s pin).1 in
     below_more (max p.floor (newest (versions_there (p.cells a)))) r h.puts (omega arith) t.top
@@ -178,12 +179,12 @@ own before rest t a w lawful =
 -- the law by each of the three entries
 
 module _ (before rest : List Entry) (a : Addr) (r w : ℕ) where
-  by_alloc : (u : TxnId) (v : Bytes) (placed : Placed) → placed.at ≡ a → Lawful (before ++ Alloc u r v placed ∷ rest) → Each (PutsAt u w) rest → Each (KeepsLock u a) rest
-      → Each (Spares u a r w) (before ++ Alloc u r v placed ∷ rest)
+  by_alloc : (u : TxnId) (v : Bytes) (placed : Placed) → placed.at ≡ a → Lawful (before ++ Alloc u r v placed ∷ rest) → AllByRecursion (PutsAt u w) rest → AllByRecursion (KeepsLock u a) rest
+      → AllByRecursion (Spares u a r w) (before ++ Alloc u r v placed ∷ rest)
   by_alloc u v placed is lawful puts keep =
       let e : Entry = Alloc u r v placed in
       let x : Stands a before (e ∷ rest) = stands a before e rest tt lawful in
-      let p : Plain = replay before in
+      let p : NodeState = replay before in
       let h : Story = story a before in
       let fits = x.lawful.0 in
       let none : p.cells a ≡ None = ap p.cells (sym is) ∙ no_cell (p.cells placed.at) fits.2.free in
@@ -195,12 +196,12 @@ module _ (before rest : List Entry) (a : Addr) (r w : ℕ) where
       (spared_before u a r w before x.begins (low_puts a p h u.actor r x.sound x.tells fits.0 low))
       (tt, spared_kept u a r w (after p e) h rest (sound p e fits x.sound) x.lawful.1 puts keep record { kept = has })
 
-  by_lock : (u : TxnId) (new : Option Bytes) (given : Locked) → Lawful (before ++ Lock u a r new (Ok given) ∷ rest) → Each (PutsAt u w) rest → Each (KeepsLock u a) rest
-      → Each (Spares u a r w) (before ++ Lock u a r new (Ok given) ∷ rest)
+  by_lock : (u : TxnId) (new : Option Bytes) (given : Locked) → Lawful (before ++ Lock u a r new (Ok given) ∷ rest) → AllByRecursion (PutsAt u w) rest → AllByRecursion (KeepsLock u a) rest
+      → AllByRecursion (Spares u a r w) (before ++ Lock u a r new (Ok given) ∷ rest)
   by_lock u new given lawful puts keep =
       let e : Entry = Lock u a r new (Ok given) in
       let x : Stands a before (e ∷ rest) = stands a before e rest tt lawful in
-      let p : Plain = replay before in
+      let p : NodeState = replay before in
       let h : Story = story a before in
       let fits : FitsLock p u a r (Ok given) = x.lawful.0 in
       let ask : Askable u (p.cells a) = askable p u a r (Ok given) fits in
@@ -212,11 +213,11 @@ module _ (before rest : List Entry) (a : Addr) (r w : ℕ) where
       (spared_before u a r w before x.begins (low_puts a p h u.actor r x.sound x.tells fits.pinned low))
       (tt, spared_kept u a r w (after p e) h rest (sound p e fits x.sound) x.lawful.1 puts keep record { kept = has })
 
-  by_check : (u : TxnId) → Lawful (before ++ Check u a r w (Ok tt) ∷ rest) → Each (Spares u a r w) (before ++ Check u a r w (Ok tt) ∷ rest)
+  by_check : (u : TxnId) → Lawful (before ++ Check u a r w (Ok tt) ∷ rest) → AllByRecursion (Spares u a r w) (before ++ Check u a r w (Ok tt) ∷ rest)
   by_check u lawful =
       let e : Entry = Check u a r w (Ok tt) in
       let x : Stands a before (e ∷ rest) = stands a before e rest tt lawful in
-      let p : Plain = replay before in
+      let p : NodeState = replay before in
       let h : Story = story a before in
       let fits : FitsCheck p u a r w (Ok tt) = x.lawful.0 in
       each_append (Spares u a r w) before (e ∷ rest)
@@ -225,26 +226,26 @@ module _ (before rest : List Entry) (a : Addr) (r w : ℕ) where
 
 -- the entries' own names for t, a, r and w
 spared : (before rest : List Entry) (e : Entry) (t : TxnId) (a : Addr) (r w : ℕ)
-    → Lawful (before ++ e ∷ rest) → Each (PutsAt t w) (before ++ e ∷ rest) → Decides t a r w e rest → Each (Spares t a r w) (before ++ e ∷ rest)
+    → Lawful (before ++ e ∷ rest) → AllByRecursion (PutsAt t w) (before ++ e ∷ rest) → Decides t a r w e rest → AllByRecursion (Spares t a r w) (before ++ e ∷ rest)
 spared before rest (Alloc u q v placed) t a r w lawful puts d =
     moved u q d.0 d.2 lawful (each_rest (PutsAt t w) before (Alloc u q v placed) rest puts) d.3 where
-      moved : (u : TxnId) (q : ℕ) → u ≡ t → q ≡ r → Lawful (before ++ Alloc u q v placed ∷ rest) → Each (PutsAt t w) rest → Each (KeepsLock t a) rest
-          → Each (Spares t a r w) (before ++ Alloc u q v placed ∷ rest)
+      moved : (u : TxnId) (q : ℕ) → u ≡ t → q ≡ r → Lawful (before ++ Alloc u q v placed ∷ rest) → AllByRecursion (PutsAt t w) rest → AllByRecursion (KeepsLock t a) rest
+          → AllByRecursion (Spares t a r w) (before ++ Alloc u q v placed ∷ rest)
       moved u q e e' lawful puts keep =
-          subst (λ (z : TxnId × ℕ). Each (Spares t a r w) (before ++ Alloc z.0 z.1 v placed ∷ rest)) (λ i. (sym e i, sym e' i))
+          subst (λ (z : TxnId × ℕ). AllByRecursion (Spares t a r w) (before ++ Alloc z.0 z.1 v placed ∷ rest)) (λ i. (sym e i, sym e' i))
           (by_alloc before rest a r w t v placed d.1 (subst (λ (z : TxnId × ℕ). Lawful (before ++ Alloc z.0 z.1 v placed ∷ rest)) (λ i. (e i, e' i)) lawful) puts keep)
 spared before rest (Lock u b q new (Ok given)) t a r w lawful puts d =
     moved u b q d.0 d.1 d.2 lawful (each_rest (PutsAt t w) before (Lock u b q new (Ok given)) rest puts) d.3 where
-      moved : (u : TxnId) (b : Addr) (q : ℕ) → u ≡ t → b ≡ a → q ≡ r → Lawful (before ++ Lock u b q new (Ok given) ∷ rest) → Each (PutsAt t w) rest → Each (KeepsLock t a) rest
-          → Each (Spares t a r w) (before ++ Lock u b q new (Ok given) ∷ rest)
+      moved : (u : TxnId) (b : Addr) (q : ℕ) → u ≡ t → b ≡ a → q ≡ r → Lawful (before ++ Lock u b q new (Ok given) ∷ rest) → AllByRecursion (PutsAt t w) rest → AllByRecursion (KeepsLock t a) rest
+          → AllByRecursion (Spares t a r w) (before ++ Lock u b q new (Ok given) ∷ rest)
       moved u b q e e' e'' lawful puts keep =
-          subst (λ (z : TxnId × Addr × ℕ). Each (Spares t a r w) (before ++ Lock z.0 z.1 z.2 new (Ok given) ∷ rest)) (λ i. (sym e i, sym e' i, sym e'' i))
+          subst (λ (z : TxnId × Addr × ℕ). AllByRecursion (Spares t a r w) (before ++ Lock z.0 z.1 z.2 new (Ok given) ∷ rest)) (λ i. (sym e i, sym e' i, sym e'' i))
           (by_lock before rest a r w t new given (subst (λ (z : TxnId × Addr × ℕ). Lawful (before ++ Lock z.0 z.1 z.2 new (Ok given) ∷ rest)) (λ i. (e i, e' i, e'' i)) lawful) puts keep)
 spared before rest (Check u b q x (Ok same)) t a r w lawful puts d = moved u b q x d.0 d.1 d.2 d.3 lawful where
   moved : (u : TxnId) (b : Addr) (q x : ℕ) → u ≡ t → b ≡ a → q ≡ r → x ≡ w → Lawful (before ++ Check u b q x (Ok tt) ∷ rest)
-      → Each (Spares t a r w) (before ++ Check u b q x (Ok tt) ∷ rest)
+      → AllByRecursion (Spares t a r w) (before ++ Check u b q x (Ok tt) ∷ rest)
   moved u b q x e e' e'' e3 lawful =
-      subst (λ (z : TxnId × Addr × ℕ × ℕ). Each (Spares t a r w) (before ++ Check z.0 z.1 z.2 z.3 (Ok tt) ∷ rest)) (λ i. (sym e i, sym e' i, sym e'' i, sym e3 i))
+      subst (λ (z : TxnId × Addr × ℕ × ℕ). AllByRecursion (Spares t a r w) (before ++ Check z.0 z.1 z.2 z.3 (Ok tt) ∷ rest)) (λ i. (sym e i, sym e' i, sym e'' i, sym e3 i))
       (by_check before rest a r w t (subst (λ (z : TxnId × Addr × ℕ × ℕ). Lawful (before ++ Check z.0 z.1 z.2 z.3 (Ok tt) ∷ rest)) (λ i. (e i, e' i, e'' i, e3 i)) lawful))
 spared before rest e t a r w lawful puts d = absurd d
 

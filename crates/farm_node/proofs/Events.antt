@@ -10,8 +10,9 @@ use Rattle.farm_node.specs.declared.entry.Entry.TheVariants.{Check}
 use Rattle.farm_node.specs.declared.faults.ReadFault.{ReadFault}
 use Rattle.farm_node.specs.declared.faults.ReadFault.TheVariants.{Held as ReadHeld, Memory as NoReadMemory}
 use Rattle.farm_node.specs.Cell.{Cell, read_answer, check_answer, is_settled}
-use Rattle.farm_node.specs.Plain.{Plain, IsStamp, PinnedBy, HeldBy, Adds, set_cell}
-use Rattle.farm_node.specs.Answers.{Gives, read_entry, ReadsCell}
+use Rattle.farm_node.specs.NodeState.{NodeState, PinnedBy, HeldBy, Adds, set_cell}
+use Rattle.a1_base.specs.Stamps.{IsStamp}
+use Rattle.farm_node.specs.Answers.{read_entry, ReadsCell, AddsIfMade}
 use Rattle.farm_node.specs.State.{cells_of, plain_from}
 use Rattle.farm_node.proofs.CellMaps.{looked_there, looked_nowhere, cells_same}
 
@@ -25,14 +26,14 @@ check_settled v c w (Ok u) same other = ap is_settled same
 check_settled v c w (Err f) same other = ap is_settled other
 
 module _ (objects later : BTreeMap Addr Cell) (places : Occupancy) (pins : List (Option ℕ)) (past floor actors : ℕ) (a : Addr) where
-  abbrev old : Plain
+  abbrev old : NodeState
   old = plain_from objects places pins past floor actors
 
-  abbrev new : Plain
+  abbrev new : NodeState
   new = plain_from later places pins past floor actors
 
   pub read_there : (k s : ℕ) (c w : Cell) (result : Result Found ReadFault) → Some c ≡ cells_of objects a → cells_of later ≡ set_cell a (Some w) (cells_of objects)
-      → ReadsCell s c result w → PinnedBy old k s → IsStamp s → Gives old (read_entry k a s result) new
+      → ReadsCell s c result w → PinnedBy old k s → IsStamp s → AddsIfMade old (read_entry k a s result) new
   read_there k s c w (Ok found) there e reads pinned stamp = record {
     fits = (pinned, stamp, reads.0 ∙ ap (read_answer s) there);
     state = looked_there objects later places pins past floor actors a s c w there e reads.1;

@@ -5,7 +5,7 @@ use Rattle.a1_base.specs.declared.place.TxnId.{TxnId}
 use Rattle.version_chain.specs.Versions.{Version}
 use Rattle.farm_node.specs.declared.hold.Hold.{Hold}
 use Rattle.farm_node.specs.Cell.{Bytes, Cell, same_txn, found_at}
-use Rattle.farm_node.specs.Plain.{Plain, HeldBy, HeldNew, HasValue, MayLock}
+use Rattle.farm_node.specs.NodeState.{NodeState, HeldBy, HeldNew, HasValue, MayLock}
 use Rattle.farm_node.specs.State.{has_lock, holds_there, has_value, is_new, may_lock}
 use Rattle.farm_node.proofs.Sound.{txn_eq, txn_self}
 
@@ -13,15 +13,15 @@ pub has_lock_to : (l : Option Hold) (t : TxnId) → has_lock t l ≡ true → (h
 has_lock_to None t has = absurd (cc)
 has_lock_to (Some h) t has = (h, refl, txn_eq h.by t has)
 
-holds_to : (p : Plain) (t : TxnId) (a : Addr) (c : Option Cell) → p.cells a ≡ c → holds_there t c ≡ true → HeldBy p t a
+holds_to : (p : NodeState) (t : TxnId) (a : Addr) (c : Option Cell) → p.cells a ≡ c → holds_there t c ≡ true → HeldBy p t a
 holds_to p t a None is held = absurd (cc)
 holds_to p t a (Some c) is held = let has = has_lock_to c.lock t held in (c, has.0, is, has.1, has.2)
 
-holds_from : (p : Plain) (t : TxnId) (a : Addr) → HeldBy p t a → holds_there t (p.cells a) ≡ true
+holds_from : (p : NodeState) (t : TxnId) (a : Addr) → HeldBy p t a → holds_there t (p.cells a) ≡ true
 holds_from p t a held =
     ap (holds_there t) held.2 ∙ (ap (has_lock t) held.3 ∙ (ap (λ (u : TxnId). same_txn u t) held.4 ∙ txn_self t))
 
-pub holds_iff : (p : Plain) (t : TxnId) (a : Addr) → IsTrue (holds_there t (p.cells a)) ↔ HeldBy p t a
+pub holds_iff : (p : NodeState) (t : TxnId) (a : Addr) → IsTrue (holds_there t (p.cells a)) ↔ HeldBy p t a
 holds_iff p t a = (holds_to p t a (p.cells a) refl, holds_from p t a)
 
 has_value_to : (r : ℕ) (c : Cell) → has_value r c ≡ true → (v : Bytes) × ((found_at r c.versions).value ≡ Some v)
@@ -36,7 +36,7 @@ new_to c new = by c.versions refl new where
   by [] is new = is
   by (v ∷ vs) is new = absurd (cc)
 
-may_to : (p : Plain) (t : TxnId) (a : Addr) (r : ℕ) (c : Option Cell) → p.cells a ≡ c → may_lock t r c ≡ true → MayLock p t a r
+may_to : (p : NodeState) (t : TxnId) (a : Addr) (r : ℕ) (c : Option Cell) → p.cells a ≡ c → may_lock t r c ≡ true → MayLock p t a r
 may_to p t a r None is may = absurd (cc)
 may_to p t a r (Some c) is may = by (has_lock t c.lock) refl may where
   by : (g : Bool) → has_lock t c.lock ≡ g → cond g (is_new (Some c)) (has_value r c) ≡ true → MayLock p t a r
@@ -49,17 +49,17 @@ may_to p t a r (Some c) is may = by (has_lock t c.lock) refl may where
       let v = has_value_to r c may in
       inl ((c, v.0, is, v.1), λ held. let yes : has_lock t c.lock ≡ true = ap (holds_there t) (sym is) ∙ holds_from p t a held in absurd (cc))
 
-may_value : (p : Plain) (t : TxnId) (a : Addr) (r : ℕ) → HasValue p a r → (HeldBy p t a → ⊥) → may_lock t r (p.cells a) ≡ true
+may_value : (p : NodeState) (t : TxnId) (a : Addr) (r : ℕ) → HasValue p a r → (HeldBy p t a → ⊥) → may_lock t r (p.cells a) ≡ true
 may_value p t a r has free = ap (may_lock t r) has.2 ∙ by (has_lock t has.0.lock) refl where
   by : (g : Bool) → has_lock t has.0.lock ≡ g → cond g (is_new (Some has.0)) (has_value r has.0) ≡ true
   by true lock = absurd (free (holds_to p t a (Some has.0) has.2 lock))
   by false lock = ap (is_some {T = Bytes}) has.3
 
-may_new : (p : Plain) (t : TxnId) (a : Addr) (r : ℕ) → HeldNew p t a → may_lock t r (p.cells a) ≡ true
+may_new : (p : NodeState) (t : TxnId) (a : Addr) (r : ℕ) → HeldNew p t a → may_lock t r (p.cells a) ≡ true
 may_new p t a r held =
     let lock : has_lock t held.0.lock ≡ true = ap (has_lock t) held.3 ∙ (ap (λ (u : TxnId). same_txn u t) held.4 ∙ txn_self t) in
     ap (may_lock t r) held.2 ∙ (ap (λ (g : Bool). cond g (is_new (Some held.0)) (has_value r held.0)) lock
     ∙ ap (λ (vs : List Version). elim vs as (λ _. Bool) [ [] ↦ true | v ∷ more ↦ false ]) held.5)
 
-pub may_iff : (p : Plain) (t : TxnId) (a : Addr) (r : ℕ) → IsTrue (may_lock t r (p.cells a)) ↔ MayLock p t a r
+pub may_iff : (p : NodeState) (t : TxnId) (a : Addr) (r : ℕ) → IsTrue (may_lock t r (p.cells a)) ↔ MayLock p t a r
 may_iff p t a r = (may_to p t a r (p.cells a) refl, λ may. ⊎_elim (λ x. may_value p t a r x.0 x.1) (λ x. may_new p t a r x) may)

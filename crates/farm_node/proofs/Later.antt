@@ -9,9 +9,10 @@ use Rattle.farm_node.specs.declared.entry.Start.{Start}
 use Rattle.farm_node.specs.declared.entry.Entry.{Entry}
 use Rattle.farm_node.specs.declared.entry.Entry.TheVariants.{Made}
 use Rattle.farm_node.specs.Cell.{Bytes, Cell, loaded_cell}
-use Rattle.farm_node.specs.Plain.{Plain, loaded_cells, begun, replay_from, Lawful}
+use Rattle.farm_node.specs.NodeState.{NodeState, loaded_cells, begun, replay_from, Lawful}
 use Rattle.farm_node.specs.Story.{Installed, Story, story_from, untold}
-use Rattle.farm_node.specs.Laws.{Among, versions_there}
+use Rattle.farm_node.specs.Laws.{versions_there}
+use Rattle.a1_base.specs.Lists.{IsAmong}
 use Rattle.farm_node.proofs.Sound.{sound_begun}
 use Rattle.farm_node.proofs.Steps.{Keeps, keeps_all}
 use Rattle.farm_node.proofs.Chains.{newest_cut}
@@ -30,13 +31,13 @@ ActorsCell (Some c) = ActorsLock c.lock
 
 -- the stamp is a put's
 abbrev pub PutAt : ℕ → List Installed → Type 0
-PutAt n puts = (i : Installed) × Among i puts × (i.stamp ≡ n)
+PutAt n puts = (i : Installed) × IsAmong i puts × (i.stamp ≡ n)
 
 -- of the puts behind the start; the newest version is one of them, or at most the floor
 pub record Later (start : ℕ) (c : Option Cell) (past floor : ℕ) (h : Story) : Type 0 where
   pub bar : Barred start c past
   pub actors : ActorsCell c
-  pub puts : (i : Installed) → Among i h.puts → (0 < i.by.actor) × (start < i.stamp)
+  pub puts : (i : Installed) → IsAmong i h.puts → (0 < i.by.actor) × (start < i.stamp)
   pub newest : (newest (versions_there c) ≤ floor) ⊎ PutAt (newest (versions_there c)) h.puts
 
 holder_acts : (c : Cell) (k : Hold) (t : TxnId) → c.lock ≡ Some k → k.by ≡ t → ActorsLock c.lock → 0 < t.actor
@@ -79,7 +80,7 @@ later_begun a stamp (x ∷ xs) = by (later_begun a stamp xs) (same_addr x.0 a) w
   by more true = record { bar = omega arith; actors = tt; puts = λ i there. absurd there; newest = inl (omega arith) }
   by more false = more
 
-abbrev pub LaterAt : ℕ → Addr → Plain → Story → Type 0
+abbrev pub LaterAt : ℕ → Addr → NodeState → Story → Type 0
 LaterAt start a p h = Later start (p.cells a) p.past p.floor h
 
 pub later_end : (a : Addr) (m : Start) (es : List Entry) → Lawful (Made m ∷ es) → LaterAt m.stamp a (replay_from (begun m) es) (story_from a untold es)

@@ -8,9 +8,9 @@ use Rattle.farm_node.specs.declared.hold.Hold.{Hold}
 use Rattle.farm_node.specs.declared.entry.Entry.{Entry}
 use Rattle.farm_node.specs.declared.entry.Entry.TheVariants.{Made, Open, Shut, Read, Alloc, Lock, Check, Put, Unlock, Collect}
 use Rattle.farm_node.specs.Cell.{Cell, is_open, is_gone}
-use Rattle.farm_node.specs.Plain.{Plain, after, begun, replay_from, Lawful, replay}
+use Rattle.farm_node.specs.NodeState.{NodeState, after, begun, replay_from, Lawful, replay}
 use Rattle.farm_node.specs.Story.{Story, story, story_from}
-use Rattle.farm_node.specs.Laws.{Each}
+use Rattle.std.specs.List.{AllByRecursion}
 use Rattle.farm_node.specs.Locks.{IsOther}
 use Rattle.farm_node.proofs.Addresses.{and_left}
 use Rattle.farm_node.proofs.Steps.{Keeps, keeps_all}
@@ -66,23 +66,23 @@ held_cell : (h : Hold) (bound top : ℕ) (c : Option Cell) → HeldAt h bound to
 held_cell h bound top None t = absurd t
 held_cell h bound top (Some d) t = (d, refl, t.0, t.1, t.2)
 
-pub stays : (before rest : List Entry) (a : Addr) (c : Cell) (h : Hold) → Lawful (before ++ rest) → (replay before).cells a ≡ Some c → c.lock ≡ Some h → Each (IsOther h.by.actor) rest
+pub stays : (before rest : List Entry) (a : Addr) (c : Cell) (h : Hold) → Lawful (before ++ rest) → (replay before).cells a ≡ Some c → c.lock ≡ Some h → AllByRecursion (IsOther h.by.actor) rest
     → (d : Cell) × ((replay (before ++ rest)).cells a ≡ Some d) × (d.lock ≡ Some h) × (d.bound ≡ c.bound) × (newest d.versions ≡ newest c.versions)
 stays [] rest a c h lawful is lock others = cc
 stays (Made m ∷ es) rest a c h lawful is lock others =
     let x : Stands a (Made m ∷ es) rest = stands_behind a m es rest lawful in
-    let p : Plain = replay (Made m ∷ es) in
+    let p : NodeState = replay (Made m ∷ es) in
     let low : newest c.versions ≤ c.bound = below (Made m ∷ es) a c x.begins is in
     let start : HeldAt h c.bound (newest c.versions) (p.cells a) = subst (λ (z : Option Cell). HeldAt h c.bound (newest c.versions) z) (sym is) (lock, refl, refl) in
     let end : StaysHeld h c.bound (newest c.versions) ((replay_from p rest).cells a) (replay_from p rest).past (replay_from p rest).floor (story_from a (story a (Made m ∷ es)) rest) =
     keeps_all a (IsOther h.by.actor) (StaysHeld h c.bound (newest c.versions)) (stays_held a h c.bound (newest c.versions) low) p (story a (Made m ∷ es)) rest x.sound x.lawful others record { held = start } in
     held_cell h c.bound (newest c.versions) ((replay (Made m ∷ (es ++ rest))).cells a)
-    (subst (λ (z : Plain). HeldAt h c.bound (newest c.versions) (z.cells a)) (sym (replay_append (begun m) es rest)) end.held)
+    (subst (λ (z : NodeState). HeldAt h c.bound (newest c.versions) (z.cells a)) (sym (replay_append (begun m) es rest)) end.held)
 stays (e ∷ es) rest a c h lawful is lock others = absurd lawful
 
 -- a pin through entries of others
 
-pin_after : (p : Plain) (k : ℕ) (e : Entry) → IsOther k e → (after p e).pins k ≡ p.pins k
+pin_after : (p : NodeState) (k : ℕ) (e : Entry) → IsOther k e → (after p e).pins k ≡ p.pins k
 pin_after p k (Made m) other = refl
 pin_after p k (Open j c x) other = ap (λ (g : Bool). cond g (Some x) (p.pins k)) (ne_eqb j k other)
 pin_after p k (Shut j) other = ap (λ (g : Bool). cond g None (p.pins k)) (ne_eqb j k other)
@@ -97,14 +97,14 @@ pin_after p k (Put u b w) other = refl
 pin_after p k (Unlock u b) other = refl
 pin_after p k (Collect j f removed) other = refl
 
-pin_from : (p : Plain) (k : ℕ) (es : List Entry) → Each (IsOther k) es → (replay_from p es).pins k ≡ p.pins k
+pin_from : (p : NodeState) (k : ℕ) (es : List Entry) → AllByRecursion (IsOther k) es → (replay_from p es).pins k ≡ p.pins k
 pin_from p k [] others = refl
 pin_from p k (e ∷ es) others = pin_from (after p e) k es others.1 ∙ pin_after p k e others.0
 
-pub pin : (before rest : List Entry) (k : ℕ) → Lawful (before ++ rest) → Each (IsOther k) rest → (replay (before ++ rest)).pins k ≡ (replay before).pins k
+pub pin : (before rest : List Entry) (k : ℕ) → Lawful (before ++ rest) → AllByRecursion (IsOther k) rest → (replay (before ++ rest)).pins k ≡ (replay before).pins k
 pin [] [] k lawful others = refl
 pin [] (Made m ∷ es) k lawful others = pin_from (begun m) k es others.1
 pin [] (e ∷ es) k lawful others = absurd lawful
 pin (Made m ∷ es) rest k lawful others =
-    ap (λ (z : Plain). z.pins k) (replay_append (begun m) es rest) ∙ pin_from (replay (Made m ∷ es)) k rest others
+    ap (λ (z : NodeState). z.pins k) (replay_append (begun m) es rest) ∙ pin_from (replay (Made m ∷ es)) k rest others
 pin (e ∷ es) rest k lawful others = absurd lawful

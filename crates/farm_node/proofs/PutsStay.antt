@@ -9,8 +9,9 @@ use Rattle.farm_node.specs.declared.entry.Start.{Start}
 use Rattle.farm_node.specs.declared.entry.Entry.{Entry}
 use Rattle.farm_node.specs.declared.entry.Entry.TheVariants.{Made, Check}
 use Rattle.farm_node.specs.Cell.{Bytes, found_of, same_txn}
-use Rattle.farm_node.specs.Plain.{Plain, FitsCheck, looked_at, Lawful, replay}
-use Rattle.farm_node.specs.Story.{Given, gives, Installed, Story, with_given, with_put, story_after, story_from, nobody, loaded_puts, untold, story_begun, story, versions_of, seen, value_at, number_of, own}
+use Rattle.farm_node.specs.NodeState.{NodeState, FitsCheck, looked_at, Lawful, replay}
+use Rattle.farm_node.specs.Story.{Given, gives, Installed, Story, with_given, with_put, story_after, story_from, nobody, loaded_puts, untold, story_begun, story, versions_of, value_at, number_of, number_of, stamped_bytes}
+use Rattle.a1_base.specs.Lists.{entries_of}
 use Rattle.farm_node.specs.Puts.{PutsHold}
 use Rattle.farm_node.proofs.Sound.{txn_eq, sound}
 use Rattle.farm_node.proofs.Steps.{check_open_at}
@@ -90,11 +91,11 @@ module _ (a : Addr) (k : ℕ) where
     by (giving t g actor same) = subst (λ (z : Story). Own z one) (sym (same all)) (other_given t g all one (other t actor) o)
     by (putting t w actor same) = subst (λ (z : Story). Own z one) (sym (same all)) (other_put t w all one (other t actor) o)
 
-  own_all : (es : List Entry) (all one : Story) → Own all one → mine (story_from a all es).puts ≡ (story_from a one (own k es)).puts
+  own_all : (es : List Entry) (all one : Story) → Own all one → mine (story_from a all es).puts ≡ (story_from a one (entries_of number_of k es)).puts
   own_all [] all one o = o.puts
   own_all (e ∷ es) all one o =
       own_all es (story_after a all e) (cond (number_of e == k) (story_after a one e) one) (own_step e all one o (number_of e == k) refl) ∙ by (number_of e == k) where
-        by : (g : Bool) → (story_from a (cond g (story_after a one e) one) (own k es)).puts ≡ (story_from a one (cond g (e ∷ own k es) (own k es))).puts
+        by : (g : Bool) → (story_from a (cond g (story_after a one e) one) (entries_of number_of k es)).puts ≡ (story_from a one (cond g (e ∷ entries_of number_of k es) (entries_of number_of k es))).puts
         by true = refl
         by false = refl
 
@@ -105,11 +106,11 @@ module _ (a : Addr) (k : ℕ) where
     by true more = ap (λ (b : Bool). cond b (record { by = nobody; read = 0; stamp = stamp; value = Some x.1 } ∷ []) []) (ne_eqb 0 k (λ e. absurd (omega arith)))
     by false more = more
 
-own_puts : (log : List Entry) (a : Addr) (k : ℕ) → Lawful log → 0 < k → filter (λ i. i.by.actor == k) (story a log).puts ≡ (story_from a untold (own k log)).puts
+own_puts : (log : List Entry) (a : Addr) (k : ℕ) → Lawful log → 0 < k → filter (λ i. i.by.actor == k) (story a log).puts ≡ (story_from a untold (entries_of number_of k log)).puts
 own_puts [] a k lawful low = absurd lawful
 own_puts (Made m ∷ es) a k lawful low =
     own_all a k es (story_begun a m) untold record { puts = none_loaded a k m.stamp m.heap low; given = λ t is. refl }
-    ∙ sym (ap (λ (x : Bool). (story_from a untold (cond x (Made m ∷ own k es) (own k es))).puts) (ne_eqb 0 k (λ e. absurd (omega arith))))
+    ∙ sym (ap (λ (x : Bool). (story_from a untold (cond x (Made m ∷ entries_of number_of k es) (entries_of number_of k es))).puts) (ne_eqb 0 k (λ e. absurd (omega arith))))
 own_puts (e ∷ es) a k lawful low = absurd lawful
 
 -- what is decided
@@ -119,7 +120,7 @@ checked : (before rest : List Entry) (t : TxnId) (a : Addr) (r w s : ℕ) → La
 checked before rest t a r w s lawful low high =
     let e : Entry = Check t a r w (Ok tt) in
     let x : Stands a before (e ∷ rest) = stands a before e rest tt lawful in
-    let p : Plain = replay before in
+    let p : NodeState = replay before in
     let h : Story = story a before in
     let fits : FitsCheck p t a r w (Ok tt) = x.lawful.0 in
     let puts : BelowAll r h.puts = low_puts a p h t.actor r x.sound x.tells fits.pinned (check_low r (p.cells a) (check_open_at r (p.cells a) fits.due)) in
@@ -129,8 +130,8 @@ checked before rest t a r w s lawful low high =
     let at_r : version_at r (versions_of (story_from a h rest).puts) ≡ version_at r (versions_of h.puts) =
     fixed_all a r (looked_at a w p) h rest (sound p e fits x.sound) x.lawful.1 (barred_less r w _ _ (omega arith) later) in
     let same : version_at s (versions_of (story_from a h rest).puts) ≡ version_at r (versions_of (story_from a h rest).puts) = at_s ∙ (steady r s h.puts puts low ∙ sym at_r) in
-    subst (λ (z : Story). seen (found_of (version_at s (versions_of z.puts))) ≡ seen (found_of (version_at r (versions_of z.puts)))) (sym x.story)
-    (ap (λ (v : Option Version). seen (found_of v)) same)
+    subst (λ (z : Story). stamped_bytes (found_of (version_at s (versions_of z.puts))) ≡ stamped_bytes (found_of (version_at r (versions_of z.puts)))) (sym x.story)
+    (ap (λ (v : Option Version). stamped_bytes (found_of v)) same)
 
 pub puts : PutsHold
 puts = record {
@@ -139,7 +140,7 @@ puts = record {
   later = λ m es a i lawful there. (later_end a m es lawful).puts i there;
   decided = λ log a i s lawful there low high.
       let t : Ends a log = ends a log lawful in
-      ap (λ (v : Option Version). seen (found_of v)) (decided_at (story a log).puts i s t.tells.falls t.tells.decided there low high);
+      ap (λ (v : Option Version). stamped_bytes (found_of v)) (decided_at (story a log).puts i s t.tells.falls t.tells.decided there low high);
   checked = checked;
   own = own_puts;
 }

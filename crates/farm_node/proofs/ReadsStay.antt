@@ -10,8 +10,8 @@ use Rattle.farm_node.specs.declared.entry.Placed.{Placed}
 use Rattle.farm_node.specs.declared.entry.Entry.{Entry}
 use Rattle.farm_node.specs.declared.entry.Entry.TheVariants.{Read, Alloc}
 use Rattle.farm_node.specs.Cell.{Bytes, Cell, found_of, found_at, read_answer, raised_to, past_raised, made_by}
-use Rattle.farm_node.specs.Plain.{Plain, set_cell, looked_at, after, LawfulFrom, Lawful, replay}
-use Rattle.farm_node.specs.Story.{gives, Installed, Story, with_given, story_after, story_from, story, versions_of, seen, value_at}
+use Rattle.farm_node.specs.NodeState.{NodeState, set_cell, looked_at, after, LawfulFrom, Lawful, replay}
+use Rattle.farm_node.specs.Story.{gives, Installed, Story, with_given, story_after, story_from, story, versions_of, value_at, stamped_bytes}
 use Rattle.farm_node.specs.Laws.{versions_there, ReadsHold, PinsHold}
 use Rattle.farm_node.proofs.Addresses.{same_self}
 use Rattle.farm_node.proofs.Sound.{Sound, sound, sound_end, pinned}
@@ -54,7 +54,7 @@ fixed a s target = record {
 }
 
 -- from where a stamp is barred on, it sees the same
-pub fixed_all : (a : Addr) (s : ℕ) (p : Plain) (h : Story) (es : List Entry) → Sound p → LawfulFrom p es → Barred s (p.cells a) p.past
+pub fixed_all : (a : Addr) (s : ℕ) (p : NodeState) (h : Story) (es : List Entry) → Sound p → LawfulFrom p es → Barred s (p.cells a) p.past
     → version_at s (versions_of (story_from a h es).puts) ≡ version_at s (versions_of h.puts)
 fixed_all a s p h es sound lawful bar =
     (keeps_all a (λ e. Unit {0}) (Fixed s (version_at s (versions_of h.puts))) (fixed a s (version_at s (versions_of h.puts))) p h es sound lawful (each_unit es) record { barred = bar; still = refl }).still
@@ -66,7 +66,7 @@ raised_bars s (Some c) past = omega arith
 pub set_self : (a : Addr) (c : Option Cell) (cells : Addr → Option Cell) → set_cell a c cells a ≡ c
 set_self a c cells = ap (λ (g : Bool). cond g c (cells a)) (same_self a)
 
-pub look_bars : (a : Addr) (s : ℕ) (p : Plain) → Barred s ((looked_at a s p).cells a) (looked_at a s p).past
+pub look_bars : (a : Addr) (s : ℕ) (p : NodeState) → Barred s ((looked_at a s p).cells a) (looked_at a s p).past
 look_bars a s p = subst (λ (c : Option Cell). Barred s c (past_raised s (p.cells a) p.past)) (sym (set_self a (raised_to s (p.cells a)) p.cells)) (raised_bars s (p.cells a) p.past)
 
 -- the laws
@@ -88,17 +88,17 @@ read_is s (Some c) found due = by c.lock due where
   by (Some k) due = held k (nat_lt s (newest c.versions)) due
 
 read_holds : (before rest : List Entry) (k : ℕ) (a : Addr) (s : ℕ) (found : Found)
-    → Lawful (before ++ Read k a s (Ok found) ∷ rest) → value_at (before ++ Read k a s (Ok found) ∷ rest) a s ≡ seen found
+    → Lawful (before ++ Read k a s (Ok found) ∷ rest) → value_at (before ++ Read k a s (Ok found) ∷ rest) a s ≡ stamped_bytes found
 read_holds before rest k a s found lawful =
     let e : Entry = Read k a s (Ok found) in
     let t : Stands a before (e ∷ rest) = stands a before e rest tt lawful in
-    let p : Plain = replay before in
+    let p : NodeState = replay before in
     let h : Story = story a before in
     let fits = t.lawful.0 in
-    let told : seen found ≡ seen (found_at s (versions_of h.puts)) = ap seen (read_is s (p.cells a) found fits.2) ∙ t.tells.same s (pinned p k s t.sound fits.0).1 in
+    let told : stamped_bytes found ≡ stamped_bytes (found_at s (versions_of h.puts)) = ap stamped_bytes (read_is s (p.cells a) found fits.2) ∙ t.tells.same s (pinned p k s t.sound fits.0).1 in
     let stays : version_at s (versions_of (story_from a h rest).puts) ≡ version_at s (versions_of h.puts) =
     fixed_all a s (looked_at a s p) h rest (sound p e fits t.sound) t.lawful.1 (look_bars a s p) in
-    ap (λ (z : Story). seen (found_at s (versions_of z.puts))) t.story ∙ (ap (λ (x : Option Version). seen (found_of x)) stays ∙ sym told)
+    ap (λ (z : Story). stamped_bytes (found_at s (versions_of z.puts))) t.story ∙ (ap (λ (x : Option Version). stamped_bytes (found_of x)) stays ∙ sym told)
 
 made_holds : (before rest : List Entry) (u : TxnId) (r : ℕ) (v : Bytes) (placed : Placed)
     → Lawful (before ++ Alloc u r v placed ∷ rest) → value_at (before ++ Alloc u r v placed ∷ rest) placed.at r ≡ None
@@ -106,25 +106,25 @@ made_holds before rest u r v placed lawful =
     let a : Addr = placed.at in
     let e : Entry = Alloc u r v placed in
     let t : Stands a before (e ∷ rest) = stands a before e rest tt lawful in
-    let p : Plain = replay before in
+    let p : NodeState = replay before in
     let h : Story = story a before in
     let new : Option Cell = Some (made_by u v placed.bound) in
     let fits = t.lawful.0 in
     let low : r ≤ placed.bound = omega arith in
-    let told : None ≡ seen (found_at r (versions_of h.puts)) =
-    ap (λ (c : Option Cell). seen (found_at r (versions_there c))) (sym (no_cell (p.cells a) fits.2.free)) ∙ t.tells.same r (pinned p u.actor r t.sound fits.0).1 in
+    let told : None ≡ stamped_bytes (found_at r (versions_of h.puts)) =
+    ap (λ (c : Option Cell). stamped_bytes (found_at r (versions_there c))) (sym (no_cell (p.cells a) fits.2.free)) ∙ t.tells.same r (pinned p u.actor r t.sound fits.0).1 in
     let bars : Barred r (set_cell a new p.cells a) p.past = subst (λ (c : Option Cell). Barred r c p.past) (sym (set_self a new p.cells)) low in
     let puts : (story_after a h e).puts ≡ h.puts =
     elim (same_addr a a) as (λ g. (cond g (with_given u (gives r (Some v)) h) h).puts ≡ h.puts) [ true ↦ refl | false ↦ refl ] in
     let stays : version_at r (versions_of (story_from a (story_after a h e) rest).puts) ≡ version_at r (versions_of (story_after a h e).puts) =
     fixed_all a r (after p e) (story_after a h e) rest (sound p e fits t.sound) t.lawful.1 bars in
-    ap (λ (z : Story). seen (found_at r (versions_of z.puts))) t.story
-    ∙ (ap (λ (x : Option Version). seen (found_of x)) stays ∙ (ap (λ (puts : List Installed). seen (found_at r (versions_of puts))) puts ∙ sym told))
+    ap (λ (z : Story). stamped_bytes (found_at r (versions_of z.puts))) t.story
+    ∙ (ap (λ (x : Option Version). stamped_bytes (found_of x)) stays ∙ (ap (λ (puts : List Installed). stamped_bytes (found_at r (versions_of puts))) puts ∙ sym told))
 
 pub reads : ReadsHold
 reads = record { read = read_holds; made = made_holds }
 
-pin_above : (p : Plain) (k x : ℕ) → Sound p → p.pins k ≡ Some x → p.floor ≤ x
+pin_above : (p : NodeState) (k x : ℕ) → Sound p → p.pins k ≡ Some x → p.floor ≤ x
 pin_above p k x s is = (pinned p k x s (x, is, omega arith)).1
 
 pub pins : PinsHold

@@ -5,14 +5,15 @@ use mathlib.Core.Logic.{dite}
 use native.Mathlib.Decide.{ℕ_discrete}
 use Rattle.a1_base.specs.declared.place.Addr.{Addr}
 use Rattle.a1_base.specs.declared.place.TxnId.{TxnId}
-use Rattle.object_region.specs.Occupancy.{width, same_addr, In, add_region}
+use Rattle.object_region.specs.Occupancy.{width, same_addr, add_region}
+use Rattle.a1_base.specs.Lists.{IsAmong}
 use Rattle.version_chain.specs.Versions.{Version, cut}
 use Rattle.farm_node.specs.declared.entry.Start.{Start}
 use Rattle.farm_node.specs.declared.entry.Entry.{Entry}
 use Rattle.farm_node.specs.declared.entry.Entry.TheVariants.{Made, Open, Shut, Read, Alloc, Lock, Check, Put, Unlock, Collect}
 use Rattle.farm_node.specs.Cell.{Bytes, Cell, same_txn, raised_to, past_raised, locked_by, installed, released, past_released, goes, collected, past_collected, loaded_cell}
-use Rattle.farm_node.specs.Plain.{IsStamp, Plain, set_cell, set_pin, places_in, places, lesser, least_pin, new_floor, past_over, PinnedBy, Fits, looked_at, after, loaded_cells, loaded_regions, begun, Loads, Begins, replay_from, LawfulFrom, replay, Lawful}
-use Rattle.farm_node.specs.Laws.{Among}
+use Rattle.farm_node.specs.NodeState.{NodeState, set_cell, set_pin, places_in, places, lesser, least_pin, new_floor, past_over, PinnedBy, Fits, looked_at, after, loaded_cells, loaded_regions, begun, Loads, IsStart, replay_from, LawfulFrom, replay, Lawful}
+use Rattle.a1_base.specs.Stamps.{IsStamp}
 use Rattle.farm_node.specs.Locks.{StampsBelow}
 use Rattle.farm_node.proofs.Addresses.{and_left, and_right, addr_eq}
 
@@ -41,7 +42,7 @@ here_more X Y None f h = h
 here_more X Y (Some c) f h = f c h
 
 abbrev pub Lies : List ℕ → Addr → Type 0
-Lies regions a = In a.region regions × (a.offset < width)
+Lies regions a = IsAmong a.region regions × (a.offset < width)
 
 -- an object lies in a made region, and its stamps are in range
 pub record Sits (regions : List ℕ) (a : Addr) (c : Cell) : Type 0 where
@@ -54,7 +55,7 @@ abbrev pub PinOk : ℕ → ℕ → ℕ → Option ℕ → Type 0
 PinOk actors floor k None = Unit {0}
 PinOk actors floor k (Some x) = (0 < k) × (k ≤ actors) × (floor ≤ x) × IsStamp x
 
-pub record Sound (p : Plain) : Type 0 where
+pub record Sound (p : NodeState) : Type 0 where
   pub sits : (a : Addr) → Here (Sits p.regions a) (p.cells a)
   pub pins : (k : ℕ) → PinOk p.actors p.floor k (p.pins k)
   pub past : IsStamp p.past
@@ -117,18 +118,18 @@ past_over_below regions floor cells (b ∷ bs) past sits t = collected_past_belo
 
 -- places
 
-in_added : (n : ℕ) (ms : List ℕ) → In n (add_region n ms)
+in_added : (n : ℕ) (ms : List ℕ) → IsAmong n (add_region n ms)
 in_added n [] = inl refl
 in_added n (m ∷ ms) = by (in_added n ms) (eqb n m) refl (nat_lt n m) where
-  by : In n (add_region n ms) → (g : Bool) → eqb n m ≡ g → (h : Bool) → In n (cond g (m ∷ ms) (cond h (n ∷ (m ∷ ms)) (m ∷ add_region n ms)))
+  by : IsAmong n (add_region n ms) → (g : Bool) → eqb n m ≡ g → (h : Bool) → IsAmong n (cond g (m ∷ ms) (cond h (n ∷ (m ∷ ms)) (m ∷ add_region n ms)))
   by more true is h = inl (sym (eqb-true n m is))
   by more false is true = inl refl
   by more false is false = inr more
 
-in_still : (n k : ℕ) (ms : List ℕ) → In n ms → In n (add_region k ms)
+in_still : (n k : ℕ) (ms : List ℕ) → IsAmong n ms → IsAmong n (add_region k ms)
 in_still n k [] t = absurd t
 in_still n k (m ∷ ms) t = by (λ x. in_still n k ms x) (eqb k m) (nat_lt k m) where
-  by : (In n ms → In n (add_region k ms)) → (g h : Bool) → In n (cond g (m ∷ ms) (cond h (k ∷ (m ∷ ms)) (m ∷ add_region k ms)))
+  by : (IsAmong n ms → IsAmong n (add_region k ms)) → (g h : Bool) → IsAmong n (cond g (m ∷ ms) (cond h (k ∷ (m ∷ ms)) (m ∷ add_region k ms)))
   by more true h = t
   by more false true = inr t
   by more false false = ⊎_elim (λ e. inl e) (λ x. inr (more x)) t
@@ -136,21 +137,21 @@ in_still n k (m ∷ ms) t = by (λ x. in_still n k ms x) (eqb k m) (nat_lt k m) 
 sits_still : (regions : List ℕ) (n : ℕ) (a : Addr) (c : Cell) → Sits regions a c → Sits (add_region n regions) a c
 sits_still regions n a c t = record { lies = (in_still a.region n regions t.lies.0, t.lies.1); bound = t.bound; versions = t.versions }
 
-among_places : (a : Addr) (n : ℕ) (more : List Addr) → a.offset < n → Among a (places_in a.region n more)
+among_places : (a : Addr) (n : ℕ) (more : List Addr) → a.offset < n → IsAmong a (places_in a.region n more)
 among_places a zero more low = absurd (omega arith)
 among_places a (suc n) more low = dite (ℕ_discrete n a.offset)
     (λ (e : n ≡ a.offset). inl (λ i. record { region = a.region; offset = e i }))
     (λ (ne : n ≢ a.offset). inr (among_places a n more (omega arith)))
 
-among_behind : (a : Addr) (r n : ℕ) (more : List Addr) → Among a more → Among a (places_in r n more)
+among_behind : (a : Addr) (r n : ℕ) (more : List Addr) → IsAmong a more → IsAmong a (places_in r n more)
 among_behind a r zero more t = t
 among_behind a r (suc n) more t = inr (among_behind a r n more t)
 
 -- each place of a made region is among the places
-pub among_all : (a : Addr) (regions : List ℕ) → Lies regions a → Among a (places regions)
+pub among_all : (a : Addr) (regions : List ℕ) → Lies regions a → IsAmong a (places regions)
 among_all a [] lies = absurd lies.0
 among_all a (r ∷ rs) lies = ⊎_elim
-    (λ (e : r ≡ a.region). subst (λ (z : ℕ). Among a (places_in z width (places rs))) (sym e) (among_places a width (places rs) lies.1))
+    (λ (e : r ≡ a.region). subst (λ (z : ℕ). IsAmong a (places_in z width (places rs))) (sym e) (among_places a width (places rs) lies.1))
     (λ more. among_behind a r width (places rs) (among_all a rs (more, lies.1)))
     lies.0
 
@@ -198,7 +199,7 @@ pin_set actors floor k j x pins at_k at_j = by (eqb k j) refl where
 pin_opened : (actors floor k c x : ℕ) → 0 < k → k ≤ actors → IsStamp c → IsStamp floor → x ≡ max c floor → PinOk actors floor k (Some x)
 pin_opened actors floor k c x low high stamp stamp' is = (low, high, omega arith, subst (λ (z : ℕ). IsStamp z) (sym is) (less_max c floor _ stamp stamp'))
 
-looked : (p : Plain) (b : Addr) (s : ℕ) → IsStamp s → Sound p → Sound (looked_at b s p)
+looked : (p : NodeState) (b : Addr) (s : ℕ) → IsStamp s → Sound p → Sound (looked_at b s p)
 looked p b s low t = record {
   sits = λ a. here_set (Sits p.regions) b a _ p.cells (raised_sits p.regions b s (p.cells b) low (t.sits b)) (t.sits a);
   pins = t.pins;
@@ -206,7 +207,7 @@ looked p b s low t = record {
   floor = t.floor;
 }
 
-pub sound : (p : Plain) (e : Entry) → Fits p e → Sound p → Sound (after p e)
+pub sound : (p : NodeState) (e : Entry) → Fits p e → Sound p → Sound (after p e)
 sound p (Made m) fits t = t
 sound p (Open k c x) fits t = record {
   sits = t.sits;
@@ -257,10 +258,10 @@ loaded_sits m (x ∷ xs) low loads a = by (loaded_sits m xs low loads.2 a) (same
   }
   by more false e = here_more (Sits (loaded_regions xs) a) (Sits (add_region x.0.region (loaded_regions xs)) a) (loaded_cells m.stamp xs a) (sits_still (loaded_regions xs) x.0.region a) more
 
-pub sound_begun : (m : Start) → Begins m → Sound (begun m)
+pub sound_begun : (m : Start) → IsStart m → Sound (begun m)
 sound_begun m begins = record { sits = λ a. loaded_sits m m.heap begins.3 begins.4 a; pins = λ k. tt; past = begins.3; floor = begins.3 }
 
-sound_all : (p : Plain) (es : List Entry) → Sound p → LawfulFrom p es → Sound (replay_from p es)
+sound_all : (p : NodeState) (es : List Entry) → Sound p → LawfulFrom p es → Sound (replay_from p es)
 sound_all p [] s lawful = s
 sound_all p (e ∷ es) s lawful = sound_all (after p e) es (sound p e lawful.0 s) lawful.1
 
@@ -270,7 +271,7 @@ sound_end (Made m ∷ es) lawful = sound_all (begun m) es (sound_begun m lawful.
 sound_end (e ∷ es) lawful = absurd lawful
 
 -- who is pinned is an actor, and reads from the floor on
-pub pinned : (p : Plain) (k s : ℕ) → Sound p → PinnedBy p k s → (0 < k) × (p.floor ≤ s)
+pub pinned : (p : NodeState) (k s : ℕ) → Sound p → PinnedBy p k s → (0 < k) × (p.floor ≤ s)
 pinned p k s sound pin =
     let ok : PinOk p.actors p.floor k (Some pin.0) = subst (λ (z : Option ℕ). PinOk p.actors p.floor k z) pin.1 (sound.pins k) in
     let le : p.floor ≤ pin.0 = ok.2 in

@@ -14,9 +14,10 @@ use Rattle.farm_node.specs.declared.entry.CheckFault.TheVariants.{Held, Changed}
 use Rattle.farm_node.specs.declared.entry.Entry.{Entry}
 use Rattle.farm_node.specs.declared.entry.Entry.TheVariants.{Made, Open, Shut, Read, Alloc, Lock, Check, Put, Unlock, Collect}
 use Rattle.farm_node.specs.Cell.{Bytes, Cell, same_txn, found_at, read_answer, raised_to, past_raised, made_by, locked_by, lock_given, unless_changed, lock_answer, check_answer, pending_of, installed, released, past_released, goes, collected, past_collected}
-use Rattle.farm_node.specs.Plain.{Plain, set_cell, places, new_floor, past_over, HeldBy, HasValue, HeldNew, MayPut, FitsLock, Fits, after, replay_from, LawfulFrom}
+use Rattle.farm_node.specs.NodeState.{NodeState, set_cell, places, new_floor, past_over, HeldBy, HasValue, HeldNew, MayPut, FitsLock, Fits, after, replay_from, LawfulFrom}
 use Rattle.farm_node.specs.Story.{gives, Story, with_given, with_put, story_after, story_from}
-use Rattle.farm_node.specs.Laws.{Each, Among}
+use Rattle.a1_base.specs.Lists.{IsAmong}
+use Rattle.std.specs.List.{AllByRecursion}
 use Rattle.farm_node.proofs.Addresses.{addr_eq}
 use Rattle.farm_node.proofs.Sound.{txn_eq, Here, Sits, Lies, among_all, Sound, sound, pinned}
 
@@ -102,7 +103,7 @@ reaches_more : (floor : ℕ) (c : Option Cell) (m n : ℕ) → m ≤ n → Reach
 reaches_more floor None m n le t = tt
 reaches_more floor (Some c) m n le t = λ g. let x : c.bound ≤ m = t g in omega arith
 
-reached_over : (floor : ℕ) (cells : Addr → Option Cell) (all : List Addr) (past : ℕ) (a : Addr) → Among a all → Reaches floor (cells a) (past_over floor cells all past)
+reached_over : (floor : ℕ) (cells : Addr → Option Cell) (all : List Addr) (past : ℕ) (a : Addr) → IsAmong a all → Reaches floor (cells a) (past_over floor cells all past)
 reached_over floor cells [] past a there = absurd there
 reached_over floor cells (b ∷ bs) past a there = ⊎_elim
     (λ (is : b ≡ a). subst (λ (z : Addr). Reaches floor (cells z) (past_over floor cells (b ∷ bs) past)) is (reached floor (cells b) (past_over floor cells bs past)))
@@ -165,31 +166,31 @@ pub record Askable (t : TxnId) (found : Option Cell) : Type 0 where
   pub is : found ≡ Some cell
   pub new : (k : Hold) → cell.lock ≡ Some k → k.by ≡ t → cell.versions ≡ []
 
-pub askable : (p : Plain) (t : TxnId) (b : Addr) (r : ℕ) (answer : Result Locked CheckFault) → FitsLock p t b r answer → Askable t (p.cells b)
+pub askable : (p : NodeState) (t : TxnId) (b : Addr) (r : ℕ) (answer : Result Locked CheckFault) → FitsLock p t b r answer → Askable t (p.cells b)
 askable p t b r answer fits = ⊎_elim
     (λ (x : HasValue p b r × (HeldBy p t b → ⊥)). record { cell = x.0.0; is = x.0.2; new = λ k lock own. absurd (x.1 (x.0.0, k, x.0.2, lock, own)) })
     (λ (x : HeldNew p t b). record { cell = x.0; is = x.2; new = λ k lock own. x.5 })
     fits.may
 
-lock_was : (p : Plain) (t : TxnId) (b : Addr) (r : ℕ) (given : Locked) (fits : FitsLock p t b r (Ok given)) → LockOpen t r (askable p t b r (Ok given) fits).cell
+lock_was : (p : NodeState) (t : TxnId) (b : Addr) (r : ℕ) (given : Locked) (fits : FitsLock p t b r (Ok given)) → LockOpen t r (askable p t b r (Ok given) fits).cell
 lock_was p t b r given fits = let ask : Askable t (p.cells b) = askable p t b r (Ok given) fits in lock_open t r given ask.cell ask.new (fits.due ∙ ap (lock_answer t r) ask.is)
 
 -- where a lock was given, no version is above r
-pub lock_low : (p : Plain) (t : TxnId) (b : Addr) (r : ℕ) (given : Locked) (fits : FitsLock p t b r (Ok given)) → newest (askable p t b r (Ok given) fits).cell.versions ≤ r
+pub lock_low : (p : NodeState) (t : TxnId) (b : Addr) (r : ℕ) (given : Locked) (fits : FitsLock p t b r (Ok given)) → newest (askable p t b r (Ok given) fits).cell.versions ≤ r
 lock_low p t b r given fits = (lock_was p t b r given fits).low
 
 pub check_open_at : (r : ℕ) (found : Option Cell) → Ok tt ≡ check_answer r found → (c : Cell) → found ≡ Some c → (c.lock ≡ None) × (newest c.versions ≤ r)
 check_open_at r found due c is = check_open r c (due ∙ ap (check_answer r) is)
 
 module _ (a : Addr) (Q : Entry → Type 0) (P : Option Cell → ℕ → ℕ → Story → Type 0) (k : Keeps a Q P) where
-  abbrev At : Plain → Story → Type 0
+  abbrev At : NodeState → Story → Type 0
   At p h = P (p.cells a) p.past p.floor h
 
   -- P of what is at b, where b is a
-  moved : (b : Addr) (p : Plain) (h : Story) (c : Option Cell) → same_addr b a ≡ true → p.cells b ≡ c → At p h → P c p.past p.floor h
+  moved : (b : Addr) (p : NodeState) (h : Story) (c : Option Cell) → same_addr b a ≡ true → p.cells b ≡ c → At p h → P c p.past p.floor h
   moved b p h c e is t = subst (λ (z : Option Cell). P z p.past p.floor h) (ap p.cells (sym (addr_eq b a e)) ∙ is) t
 
-  look_step : (s : ℕ) (b : Addr) (p : Plain) (h : Story) → ((c : Cell) → p.cells b ≡ Some c → (c.lock ≡ None) ⊎ (s < newest c.versions)) → At p h
+  look_step : (s : ℕ) (b : Addr) (p : NodeState) (h : Story) → ((c : Cell) → p.cells b ≡ Some c → (c.lock ≡ None) ⊎ (s < newest c.versions)) → At p h
       → P (set_cell b (raised_to s (p.cells b)) p.cells a) (past_raised s (p.cells b) p.past) p.floor h
   look_step s b p h is_open t = by (same_addr b a) refl where
     on : (c : Option Cell) → p.cells b ≡ c → P c p.past p.floor h → P (raised_to s c) (past_raised s c p.past) p.floor h
@@ -200,14 +201,14 @@ module _ (a : Addr) (Q : Entry → Type 0) (P : Option Cell → ℕ → ℕ → 
     by true e = on (p.cells b) refl (moved b p h (p.cells b) e refl t)
     by false e = k.aside (p.cells a) p.past (past_raised s (p.cells b) p.past) p.floor h (past_raised_more s (p.cells b) p.past) t
 
-  made_step : (u : TxnId) (r : ℕ) (v : Bytes) (placed : Placed) (p : Plain) (h : Story) → (placed.at ≡ a → Making a Q u r v placed p.past p.floor) → p.cells placed.at ≡ None → At p h
+  made_step : (u : TxnId) (r : ℕ) (v : Bytes) (placed : Placed) (p : NodeState) (h : Story) → (placed.at ≡ a → Making a Q u r v placed p.past p.floor) → p.cells placed.at ≡ None → At p h
       → P (set_cell placed.at (Some (made_by u v placed.bound)) p.cells a) p.past p.floor (cond (same_addr placed.at a) (with_given u (gives r (Some v)) h) h)
   made_step u r v placed p h making free t = by (same_addr placed.at a) refl where
     by : (g : Bool) → same_addr placed.at a ≡ g → P (cond g (Some (made_by u v placed.bound)) (p.cells a)) p.past p.floor (cond g (with_given u (gives r (Some v)) h) h)
     by true e = k.made u r v placed p.past p.floor h (making (addr_eq placed.at a e)) (moved placed.at p h None e free t)
     by false e = t
 
-  lock_step : (u : TxnId) (b : Addr) (r : ℕ) (new : Option Bytes) (given : Locked) (p : Plain) (h : Story) → Sound p → FitsLock p u b r (Ok given) → Q (Lock u b r new (Ok given)) → At p h
+  lock_step : (u : TxnId) (b : Addr) (r : ℕ) (new : Option Bytes) (given : Locked) (p : NodeState) (h : Story) → Sound p → FitsLock p u b r (Ok given) → Q (Lock u b r new (Ok given)) → At p h
       → P (set_cell b (locked_by u new (p.cells b)) p.cells a) p.past p.floor (cond (same_addr b a) (with_given u (gives r new) h) h)
   lock_step u b r new given p h s fits q t = by (same_addr b a) refl where
     ask : Askable u (p.cells b)
@@ -223,7 +224,7 @@ module _ (a : Addr) (Q : Entry → Type 0) (P : Option Cell → ℕ → ℕ → 
         (moved b p h (Some ask.cell) e ask.is t))
     by false e = t
 
-  put_step : (u : TxnId) (b : Addr) (w : ℕ) (p : Plain) (h : Story) → MayPut p u b w → Q (Put u b w) → At p h
+  put_step : (u : TxnId) (b : Addr) (w : ℕ) (p : NodeState) (h : Story) → MayPut p u b w → Q (Put u b w) → At p h
       → P (set_cell b (installed w (p.cells b)) p.cells a) p.past p.floor (cond (same_addr b a) (with_put u w h) h)
   put_step u b w p h may q t = by (same_addr b a) refl where
     by : (g : Bool) → same_addr b a ≡ g → P (cond g (installed w (p.cells b)) (p.cells a)) p.past p.floor (cond g (with_put u w h) h)
@@ -231,7 +232,7 @@ module _ (a : Addr) (Q : Entry → Type 0) (P : Option Cell → ℕ → ℕ → 
         (k.put u b w may.0 p.past p.floor h record { fits = q; here = addr_eq b a e; hold = may.1; lock = may.3; own = may.4 } may.5 (moved b p h (Some may.0) e may.2 t))
     by false e = t
 
-  unlock_step : (u : TxnId) (b : Addr) (p : Plain) (h : Story) → HeldBy p u b → Q (Unlock u b) → At p h
+  unlock_step : (u : TxnId) (b : Addr) (p : NodeState) (h : Story) → HeldBy p u b → Q (Unlock u b) → At p h
       → P (set_cell b (released (p.cells b)) p.cells a) (past_released (p.cells b) p.past) p.floor h
   unlock_step u b p h held q t = by (same_addr b a) refl where
     on : (c : Cell) → Ending a Q (Unlock u b) u b c → (vs : List Version) → c.versions ≡ vs → P (Some c) p.past p.floor h
@@ -244,7 +245,7 @@ module _ (a : Addr) (Q : Entry → Type 0) (P : Option Cell → ℕ → ℕ → 
         (on held.0 record { fits = q; here = addr_eq b a e; hold = held.1; lock = held.3; own = held.4 } held.0.versions refl (moved b p h (Some held.0) e held.2 t))
     by false e = k.aside (p.cells a) p.past (past_released (p.cells b) p.past) p.floor h (past_released_more (p.cells b) p.past) t
 
-  collect_step : (f : ℕ) (p : Plain) (h : Story) → Sound p → At p h
+  collect_step : (f : ℕ) (p : NodeState) (h : Story) → Sound p → At p h
       → P (collected (new_floor p f) (p.cells a)) (past_over (new_floor p f) p.cells (places p.regions) p.past) (new_floor p f) h
   collect_step f p h s t = by (p.cells a) (s.sits a) (λ lies. reached_over (new_floor p f) p.cells (places p.regions) p.past a (among_all a p.regions lies)) t where
     more : p.past ≤ past_over (new_floor p f) p.cells (places p.regions) p.past
@@ -260,7 +261,7 @@ module _ (a : Addr) (Q : Entry → Type 0) (P : Option Cell → ℕ → ℕ → 
     by None sits reach t = k.none p.past _ p.floor _ h more (omega arith) t
     by (Some c) sits reach t = one c (goes (new_floor p f) c) refl (reach sits.lies) t
 
-  pub keeps : (p : Plain) (h : Story) (e : Entry) → Sound p → Fits p e → Q e → At p h → At (after p e) (story_after a h e)
+  pub keeps : (p : NodeState) (h : Story) (e : Entry) → Sound p → Fits p e → Q e → At p h → At (after p e) (story_after a h e)
   keeps p h (Made m) s fits q t = t
   keeps p h (Open j c x) s fits q t = t
   keeps p h (Shut j) s fits q t = t
@@ -277,6 +278,6 @@ module _ (a : Addr) (Q : Entry → Type 0) (P : Option Cell → ℕ → ℕ → 
   keeps p h (Unlock u b) s fits q t = unlock_step u b p h fits q t
   keeps p h (Collect j f removed) s fits q t = collect_step f p h s t
 
-  pub keeps_all : (p : Plain) (h : Story) (es : List Entry) → Sound p → LawfulFrom p es → Each Q es → At p h → At (replay_from p es) (story_from a h es)
+  pub keeps_all : (p : NodeState) (h : Story) (es : List Entry) → Sound p → LawfulFrom p es → AllByRecursion Q es → At p h → At (replay_from p es) (story_from a h es)
   keeps_all p h [] s lawful q t = t
   keeps_all p h (e ∷ es) s lawful q t = keeps_all (after p e) (story_after a h e) es (sound p e lawful.0 s) lawful.1 q.1 (keeps p h e s lawful.0 q.0 t)

@@ -9,9 +9,10 @@ use Rattle.farm_node.specs.declared.entry.Start.{Start}
 use Rattle.farm_node.specs.declared.entry.Entry.{Entry}
 use Rattle.farm_node.specs.declared.entry.Entry.TheVariants.{Made}
 use Rattle.farm_node.specs.Cell.{Bytes, Cell, found_of, found_at, pending_of, is_open, is_gone, loaded_cell}
-use Rattle.farm_node.specs.Plain.{Plain, after, loaded_cells, begun, replay_from, LawfulFrom, replay, Lawful}
-use Rattle.farm_node.specs.Story.{gives, Installed, Story, with_given, story_after, story_from, loaded_puts, story_begun, story, nobody, versions_of, seen}
-use Rattle.farm_node.specs.Laws.{Each, versions_there}
+use Rattle.farm_node.specs.NodeState.{NodeState, after, loaded_cells, begun, replay_from, LawfulFrom, replay, Lawful}
+use Rattle.farm_node.specs.Story.{gives, Installed, Story, with_given, story_after, story_from, loaded_puts, story_begun, story, nobody, versions_of, stamped_bytes}
+use Rattle.farm_node.specs.Laws.{versions_there}
+use Rattle.std.specs.List.{AllByRecursion}
 use Rattle.farm_node.proofs.Addresses.{and_right}
 use Rattle.farm_node.proofs.Sound.{txn_self, Sound, sound_begun, sound_end}
 use Rattle.farm_node.proofs.Steps.{Keeps, keeps_all}
@@ -38,7 +39,7 @@ Below None = Unit {0}
 Below (Some c) = newest c.versions ≤ c.bound
 
 pub record Tells (c : Option Cell) (past floor : ℕ) (h : Story) : Type 0 where
-  pub same : (s : ℕ) → floor ≤ s → seen (found_at s (versions_there c)) ≡ seen (found_at s (versions_of h.puts))
+  pub same : (s : ℕ) → floor ≤ s → stamped_bytes (found_at s (versions_there c)) ≡ stamped_bytes (found_at s (versions_of h.puts))
   pub waits : Waits c h
   pub under : Under c past h.puts
   pub top : BelowAll (max floor (newest (versions_there c))) h.puts
@@ -94,8 +95,8 @@ tells a = record {
   put = λ u b w c past floor h ending above t.
       let wait = waiting c ending.hold u h ending.lock ending.own t.waits in
       record {
-        same = λ s le. elim (nat_le w s) as (λ g. seen (found_of (cond g (Some (w, pending_of c.lock)) (version_at s c.versions))) ≡ seen (found_of (cond g (Some (w, (h.given u).value)) (version_at s (versions_of h.puts)))))
-            [ true ↦ ap (λ (x : Option Bytes). seen (found_of (Some (w, x)))) wait.0 | false ↦ t.same s le ];
+        same = λ s le. elim (nat_le w s) as (λ g. stamped_bytes (found_of (cond g (Some (w, pending_of c.lock)) (version_at s c.versions))) ≡ stamped_bytes (found_of (cond g (Some (w, (h.given u).value)) (version_at s (versions_of h.puts)))))
+            [ true ↦ ap (λ (x : Option Bytes). stamped_bytes (found_of (Some (w, x)))) wait.0 | false ↦ t.same s le ];
         waits = tt;
         under = (omega arith, below_more c.bound w h.puts (omega arith) t.under);
         top = (omega arith, below_more c.bound (max floor w) h.puts (omega arith) t.under);
@@ -105,7 +106,7 @@ tells a = record {
       };
   unlocked = λ u b c past floor h ending t. record { same = t.same; waits = tt; under = t.under; top = t.top; below = t.below; falls = t.falls; decided = t.decided };
   back = λ u b c past floor h ending none t. record {
-    same = λ s le. ap (λ (vs : List Version). seen (found_at s vs)) (sym none) ∙ t.same s le;
+    same = λ s le. ap (λ (vs : List Version). stamped_bytes (found_at s vs)) (sym none) ∙ t.same s le;
     waits = tt;
     under = below_more c.bound (max past c.bound) h.puts (omega arith) t.under;
     top = subst (λ (vs : List Version). BelowAll (max floor (newest vs)) h.puts) none t.top;
@@ -114,7 +115,7 @@ tells a = record {
     decided = t.decided;
   };
   cut = λ c past past' floor floor' h le more t. record {
-    same = λ s low. let l : floor ≤ s = omega arith in ap (λ (x : Option Version). seen (found_of x)) (cut_at floor' s c.versions low) ∙ t.same s l;
+    same = λ s low. let l : floor ≤ s = omega arith in ap (λ (x : Option Version). stamped_bytes (found_of x)) (cut_at floor' s c.versions low) ∙ t.same s l;
     waits = t.waits;
     under = t.under;
     top = subst (λ (n : ℕ). BelowAll (max floor' n) h.puts) (sym (newest_cut floor' c.versions)) (below_more (max floor (newest c.versions)) (max floor' (newest c.versions)) h.puts (omega arith) t.top);
@@ -154,11 +155,11 @@ tells_begun a stamp (x ∷ xs) low = by (tells_begun a stamp xs low) (same_addr 
 
 -- lists
 
-split_lawful : (p : Plain) (before rest : List Entry) → LawfulFrom p (before ++ rest) → LawfulFrom p before × LawfulFrom (replay_from p before) rest
+split_lawful : (p : NodeState) (before rest : List Entry) → LawfulFrom p (before ++ rest) → LawfulFrom p before × LawfulFrom (replay_from p before) rest
 split_lawful p [] rest lawful = (tt, lawful)
 split_lawful p (e ∷ es) rest lawful = let r = split_lawful (after p e) es rest lawful.1 in ((lawful.0, r.0), r.1)
 
-pub each_unit : (es : List Entry) → Each (λ e. Unit {0}) es
+pub each_unit : (es : List Entry) → AllByRecursion (λ e. Unit {0}) es
 each_unit [] = tt
 each_unit (e ∷ es) = (tt, each_unit es)
 
@@ -166,11 +167,11 @@ story_append : (a : Addr) (h : Story) (before rest : List Entry) → story_from 
 story_append a h [] rest = refl
 story_append a h (e ∷ es) rest = story_append a (story_after a h e) es rest
 
-pub replay_append : (p : Plain) (before rest : List Entry) → replay_from p (before ++ rest) ≡ replay_from (replay_from p before) rest
+pub replay_append : (p : NodeState) (before rest : List Entry) → replay_from p (before ++ rest) ≡ replay_from (replay_from p before) rest
 replay_append p [] rest = refl
 replay_append p (e ∷ es) rest = replay_append (after p e) es rest
 
-abbrev pub TellsAt : Addr → Plain → Story → Type 0
+abbrev pub TellsAt : Addr → NodeState → Story → Type 0
 TellsAt a p h = Tells (p.cells a) p.past p.floor h
 
 -- the end of a lawful list

@@ -5,18 +5,19 @@ use Rattle.std.proofs.lemmas.List.{take-append-le}
 use Rattle.std.specs.Option.{is_some}
 use Rattle.std.specs.List.{list_any}
 use Rattle.a1_base.specs.declared.place.Addr.{Addr}
-use Rattle.object_region.specs.Occupancy.{width, same_addr, In, Rises, Occupancy, IsOccupancy}
+use Rattle.object_region.specs.Occupancy.{width, same_addr, Rises, Occupancy, IsOccupancy}
+use Rattle.a1_base.specs.Lists.{IsAmong}
 use Rattle.version_chain.specs.Versions.{Version, cut}
 use Rattle.farm_node.specs.Cell.{Cell, is_absent, is_open, is_gone, is_single, goes, collected, past_collected, objects_in, versions_in}
-use Rattle.farm_node.specs.Plain.{Plain, set_cell, places, total, past_over, after_collect, counted, object_count, version_count}
+use Rattle.farm_node.specs.NodeState.{NodeState, set_cell, places, total, past_over, after_collect, counted, object_count, version_count}
 use Rattle.farm_node.specs.State.{settled_there, goes_there, SweepsNext, collected_at}
 use Rattle.farm_node.proofs.Addresses.{and_right, addr_eq, same_self}
 use Rattle.farm_node.proofs.CellMaps.{unset}
 use Rattle.farm_node.proofs.Totals.{gone_cut, total_set, past_over_set}
 
 -- each object lies in a made region
-abbrev pub IsPlaced : Plain → Type 0
-IsPlaced p = (a : Addr) (c : Cell) → p.cells a ≡ Some c → In a.region p.regions × (a.offset < width)
+abbrev pub IsPlaced : NodeState → Type 0
+IsPlaced p = (a : Addr) (c : Cell) → p.cells a ≡ Some c → IsAmong a.region p.regions × (a.offset < width)
 
 -- a collection leaves nothing to collect
 
@@ -69,12 +70,12 @@ over_fixed : (floor : ℕ) (cells : Addr → Option Cell) (all : List Addr) (pas
 over_fixed floor cells [] past fixed = refl
 over_fixed floor cells (a ∷ all) past fixed = past_fixed floor (cells a) (past_over floor cells all past) (fixed a) ∙ over_fixed floor cells all past fixed
 
-pub all_fixed : (floor : ℕ) (p : Plain) → ((a : Addr) → collected floor (p.cells a) ≡ p.cells a) → after_collect floor p ≡ record p { floor = floor }
+pub all_fixed : (floor : ℕ) (p : NodeState) → ((a : Addr) → collected floor (p.cells a) ≡ p.cells a) → after_collect floor p ≡ record p { floor = floor }
 all_fixed floor p fixed = λ i. record p { cells = λ a. fixed a i; past = over_fixed floor p.cells (places p.regions) p.past fixed i; floor = floor }
 
 -- collecting one address beforehand changes nothing of the whole
 
-module _ (floor : ℕ) (p : Plain) (a : Addr) (rises : Rises p.regions) (placed : IsPlaced p) where
+module _ (floor : ℕ) (p : NodeState) (a : Addr) (rises : Rises p.regions) (placed : IsPlaced p) where
   cells_before : (b : Addr) → collected floor (set_cell a (collected floor (p.cells a)) p.cells b) ≡ collected floor (p.cells b)
   cells_before b = at (same_addr a b) refl where
     at : (g : Bool) → same_addr a b ≡ g → collected floor (cond g (collected floor (p.cells a)) (p.cells b)) ≡ collected floor (p.cells b)
@@ -107,13 +108,13 @@ module _ (floor : ℕ) (p : Plain) (a : Addr) (rises : Rises p.regions) (placed 
     was None e = cc
     was (Some c) e = (c, refl)
 
-    at : (g : Bool) → same_addr a b ≡ g → cond g (collected floor (p.cells a)) (p.cells b) ≡ Some d → In b.region p.regions × (b.offset < width)
-    at true same e = let c = was (p.cells a) e in subst (λ (z : Addr). In z.region p.regions × (z.offset < width)) (addr_eq a b same) (placed a c.0 c.1)
+    at : (g : Bool) → same_addr a b ≡ g → cond g (collected floor (p.cells a)) (p.cells b) ≡ Some d → IsAmong b.region p.regions × (b.offset < width)
+    at true same e = let c = was (p.cells a) e in subst (λ (z : Addr). IsAmong z.region p.regions × (z.offset < width)) (addr_eq a b same) (placed a c.0 c.1)
     at false same e = placed b d e
 
 -- how far a sweep has come
 
-pub record IsSweeping (floor : ℕ) (begin now : Plain) (touched : List Addr) (left versions objects : ℕ) : Type 0 where
+pub record IsSweeping (floor : ℕ) (begin now : NodeState) (touched : List Addr) (left versions objects : ℕ) : Type 0 where
   pub same : after_collect floor now ≡ after_collect floor begin
   pub rises : Rises now.regions
   pub placed : IsPlaced now
@@ -135,7 +136,7 @@ take_all : (xs : List Addr) → take (length xs) xs ≡ xs
 take_all [] = refl
 take_all (x ∷ xs) = ap (λ (l : List Addr). x ∷ l) (take_all xs)
 
-pub sweeping_begins : (floor : ℕ) (p : Plain) (touched : List Addr) (left : ℕ) → left ≡ length touched → Rises p.regions → IsPlaced p
+pub sweeping_begins : (floor : ℕ) (p : NodeState) (touched : List Addr) (left : ℕ) → left ≡ length touched → Rises p.regions → IsPlaced p
     → ((a : Addr) → (settled_there (p.cells a) || list_any (same_addr a) touched) ≡ true) → IsSweeping floor p p touched left 0 0
 sweeping_begins floor p touched left all rises placed tracked = record {
   same = refl;
@@ -171,7 +172,7 @@ take_more m rest touched' a le kept = ⊎_elim
     (λ (e : touched' ≡ rest ++ a ∷ []). (ap (take m) e ∙ take-append-le m rest (a ∷ []) le, subst (λ (l : List Addr). m ≤ length l) (sym e) (let n : length (rest ++ a ∷ []) ≡ length rest + 1 = length-append rest (a ∷ []) in omega arith)))
     kept
 
-pub sweeping_more : (floor : ℕ) (begin now later : Plain) (touched touched' : List Addr) (left next versions objects : ℕ) (result : ℕ × Bool) (versions' objects' : ℕ)
+pub sweeping_more : (floor : ℕ) (begin now later : NodeState) (touched touched' : List Addr) (left next versions objects : ℕ) (result : ℕ × Bool) (versions' objects' : ℕ)
     → IsSweeping floor begin now touched left versions objects → left ≡ suc next → SweepsNext floor touched now result touched' later
     → versions' ≡ min (versions + result.0) (2 ^ 64 - 1) → objects' ≡ objects + one_if result.1 → IsSweeping floor begin later touched' next versions' objects'
 sweeping_more floor begin now later [] touched' left next versions objects result versions' objects' s step swept more counted' = absurd (let l : left ≤ 0 = s.long in omega arith)
@@ -179,7 +180,7 @@ sweeping_more floor begin now later (x ∷ rest) touched' left next versions obj
     let le : next ≤ length rest = (let l : left ≤ length (x ∷ rest) = s.long in omega arith) in
     let kept = take_more next rest touched' x le swept.3 in
     let here : later.cells x ≡ collected floor (now.cells x) =
-    ap (λ (p : Plain). p.cells x) swept.0 ∙ ap (λ (g : Bool). cond g (collected floor (now.cells x)) (now.cells x)) (same_self x) in
+    ap (λ (p : NodeState). p.cells x) swept.0 ∙ ap (λ (g : Bool). cond g (collected floor (now.cells x)) (now.cells x)) (same_self x) in
     let fewer_versions : version_count (collected_at floor x now) + versions_in (now.cells x) ≡ version_count now + versions_in (collected floor (now.cells x)) = total_before floor now x s.rises s.placed versions_in in
     let fewer_objects : object_count (collected_at floor x now) + objects_in (now.cells x) ≡ object_count now + objects_in (collected floor (now.cells x)) = total_before floor now x s.rises s.placed objects_in in
     let later_versions : version_count later ≡ version_count (collected_at floor x now) = ap version_count swept.0 in
@@ -192,10 +193,10 @@ sweeping_more floor begin now later (x ∷ rest) touched' left next versions obj
     let was_objects : objects + object_count now ≡ object_count begin = s.gone in
     record {
       same = ap (after_collect floor) swept.0 ∙ (after_before floor now x s.rises s.placed ∙ s.same);
-      rises = subst (λ (p : Plain). Rises p.regions) (sym swept.0) s.rises;
+      rises = subst (λ (p : NodeState). Rises p.regions) (sym swept.0) s.rises;
       placed = subst IsPlaced (sym swept.0) (placed_before floor now x s.rises s.placed);
       waits = λ b. subst (λ (l : List Addr). (list_any (same_addr b) l ≡ true) ⊎ (collected floor (later.cells b) ≡ later.cells b)) (sym kept.0)
-          (subst (λ (p : Plain). (list_any (same_addr b) (take next rest) ≡ true) ⊎ (collected floor (p.cells b) ≡ p.cells b)) (sym swept.0) (waits b (s.waits b)));
+          (subst (λ (p : NodeState). (list_any (same_addr b) (take next rest) ≡ true) ⊎ (collected floor (p.cells b) ≡ p.cells b)) (sym swept.0) (waits b (s.waits b)));
       long = kept.1;
       removed = omega arith;
       fewer = omega arith;
@@ -225,26 +226,26 @@ sweeping_more floor begin now later (x ∷ rest) touched' left next versions obj
 none_waits : (o : Option Cell) (floor : ℕ) → (false ≡ true) ⊎ (collected floor o ≡ o) → collected floor o ≡ o
 none_waits o floor w = ⊎_elim (λ (e : false ≡ true). cc) (λ (fixed : collected floor o ≡ o). fixed) w
 
-pub sweeping_ends : (floor : ℕ) (begin now : Plain) (touched : List Addr) (left versions objects : ℕ) → IsSweeping floor begin now touched left versions objects → left ≡ 0
+pub sweeping_ends : (floor : ℕ) (begin now : NodeState) (touched : List Addr) (left versions objects : ℕ) → IsSweeping floor begin now touched left versions objects → left ≡ 0
     → after_collect floor begin ≡ record now { floor = floor }
 sweeping_ends floor begin now touched left versions objects s done =
     sym s.same ∙ all_fixed floor now (λ a. none_waits (now.cells a) floor (subst (λ (n : ℕ). (list_any (same_addr a) (take n touched) ≡ true) ⊎ (collected floor (now.cells a) ≡ now.cells a)) done (s.waits a)))
 
 -- a node without a region has nothing
-pub empty_fixed : (floor : ℕ) (p : Plain) → IsPlaced p → p.regions ≡ [] → after_collect floor p ≡ record p { floor = floor }
+pub empty_fixed : (floor : ℕ) (p : NodeState) → IsPlaced p → p.regions ≡ [] → after_collect floor p ≡ record p { floor = floor }
 empty_fixed floor p placed none = all_fixed floor p (λ a. at a (p.cells a) refl) where
   at : (a : Addr) (o : Option Cell) → p.cells a ≡ o → collected floor o ≡ o
   at a None is = refl
-  at a (Some c) is = absurd (subst (λ (rs : List ℕ). In a.region rs) none (placed a c is).0)
+  at a (Some c) is = absurd (subst (λ (rs : List ℕ). IsAmong a.region rs) none (placed a c is).0)
 
 pub byte_at_most_one : (b : Bool) → bool_byte b ≤ 1
 byte_at_most_one true = omega arith
 byte_at_most_one false = omega arith
 
-pub placed_by : (p : Plain) (o : Occupancy) → IsOccupancy o → p.regions ≡ o.regions → ((a : Addr) → o.taken a ≡ is_some (p.cells a)) → IsPlaced p
+pub placed_by : (p : NodeState) (o : Occupancy) → IsOccupancy o → p.regions ≡ o.regions → ((a : Addr) → o.taken a ≡ is_some (p.cells a)) → IsPlaced p
 placed_by p o sound same agrees a c is =
     let there = sound.placed a (agrees a ∙ ap is_some is) in
-    (subst (λ (rs : List ℕ). In a.region rs) (sym same) there.0, there.1)
+    (subst (λ (rs : List ℕ). IsAmong a.region rs) (sym same) there.0, there.1)
 
 pub no_regions : (n : ℕ) (rs : List ℕ) → n ≡ length rs → n ≡ 0 → rs ≡ []
 no_regions n [] e z = refl

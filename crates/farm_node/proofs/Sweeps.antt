@@ -8,7 +8,7 @@ use Rattle.object_region.specs.Occupancy.{same_addr, Occupancy, without_place}
 use Rattle.version_chain.specs.Versions.{cut}
 use Rattle.farm_node.specs.declared.swept.Swept.{Swept}
 use Rattle.farm_node.specs.Cell.{Cell, goes, collected, past_collected, versions_in}
-use Rattle.farm_node.specs.Plain.{Plain, set_cell}
+use Rattle.farm_node.specs.NodeState.{NodeState, set_cell}
 use Rattle.farm_node.specs.State.{cells_of, plain_from, AgreesWith, IsTracked, settled_there, goes_there, bound_there, past_with, SweepsCell, SweepsNext}
 use Rattle.farm_node.proofs.Addresses.{addr_eq, same_self}
 use Rattle.farm_node.proofs.CellMaps.{agrees_set, agrees_without, or_right}
@@ -90,10 +90,10 @@ kept_or touched' rest a true e = inr e
 kept_or touched' rest a false e = inl e
 
 module _ (objects later : BTreeMap Addr Cell) (places places' : Occupancy) (pins : List (Option ℕ)) (past past' below actors : ℕ) where
-  abbrev old : Plain
+  abbrev old : NodeState
   old = plain_from objects places pins past below actors
 
-  abbrev new : Plain
+  abbrev new : NodeState
   new = plain_from later places' pins past' below actors
 
   pub sweeps_next : (touched touched' rest : List Addr) (a : Addr) (floor : ℕ) (swept : Swept) (gone : Bool) → touched ≡ a ∷ rest

@@ -9,10 +9,11 @@ use Rattle.std.specs.declared.cmp.Ordering.TheVariants.{Less}
 use Rattle.std.proofs.lemmas.Bool.{false_from_ne_true, true≢false, cases_eq}
 use Rattle.std.proofs.lemmas.Map.Keys.{sorted_head, sorted_tail}
 use Rattle.a1_base.specs.declared.place.Addr.{Addr}
-use Rattle.object_region.specs.Occupancy.{width, addr_order, same_addr, In, IsBelow, Rises}
+use Rattle.object_region.specs.Occupancy.{width, addr_order, same_addr, IsBelow, Rises}
+use Rattle.a1_base.specs.Lists.{IsAmong}
 use Rattle.version_chain.specs.Versions.{Version, cut}
 use Rattle.farm_node.specs.Cell.{Cell, collected, past_collected, goes, is_gone, is_open}
-use Rattle.farm_node.specs.Plain.{set_cell, places_in, places, total, past_over}
+use Rattle.farm_node.specs.NodeState.{set_cell, places_in, places, total, past_over}
 use Rattle.farm_node.specs.State.{cells_of}
 use Rattle.farm_node.proofs.Addresses.{addr_eq, same_self}
 
@@ -66,13 +67,13 @@ occurrences_below a [] below = refl
 occurrences_below a (n ∷ ns) below =
     occurrences_outside a n width (places ns) (λ r. let low : a.region < n = below.0 in absurd (omega arith)) ∙ occurrences_below a ns below.1
 
-below_each : (m n : ℕ) (ns : List ℕ) → IsBelow m ns → In n ns → m < n
+below_each : (m n : ℕ) (ns : List ℕ) → IsBelow m ns → IsAmong n ns → m < n
 below_each m n [] below there = absurd there
 below_each m n (k ∷ ks) below (inl e) = subst (λ (z : ℕ). m < z) e below.0
 below_each m n (k ∷ ks) below (inr there) = below_each m n ks below.1 there
 
 -- each place of the node stands once among its places
-occurs_once : (a : Addr) (regions : List ℕ) → Rises regions → In a.region regions → a.offset < width → occurrences a (places regions) ≡ 1
+occurs_once : (a : Addr) (regions : List ℕ) → Rises regions → IsAmong a.region regions → a.offset < width → occurrences a (places regions) ≡ 1
 occurs_once a [] rises there low = absurd there
 occurs_once a (n ∷ ns) rises (inl e) low =
     ap (λ (m : ℕ). occurrences a (places_in m width (places ns))) e
@@ -107,7 +108,7 @@ module _ (count : Option Cell → ℕ) (a : Addr) (c : Option Cell) (cells : Add
         omega arith
 
 -- a total changes by what the one address changes
-pub total_set : (count : Option Cell → ℕ) (regions : List ℕ) (a : Addr) (c : Option Cell) (cells : Addr → Option Cell) → Rises regions → In a.region regions → a.offset < width
+pub total_set : (count : Option Cell → ℕ) (regions : List ℕ) (a : Addr) (c : Option Cell) (cells : Addr → Option Cell) → Rises regions → IsAmong a.region regions → a.offset < width
     → total count (set_cell a c cells) (places regions) + count (cells a) ≡ total count cells (places regions) + count c
 total_set count regions a c cells rises there low = total_with count a c cells (places regions) (occurs_once a regions rises there low)
 
@@ -159,7 +160,7 @@ module _ (floor : ℕ) (a : Addr) (cells : Addr → Option Cell) (past : ℕ) wh
         omega (arith, past_is_max floor (past_over floor cells bs past) (cells b))
 
 -- what was collected at one address raises past no more
-pub past_over_set : (floor : ℕ) (regions : List ℕ) (a : Addr) (cells : Addr → Option Cell) (past : ℕ) → Rises regions → In a.region regions → a.offset < width
+pub past_over_set : (floor : ℕ) (regions : List ℕ) (a : Addr) (cells : Addr → Option Cell) (past : ℕ) → Rises regions → IsAmong a.region regions → a.offset < width
     → past_over floor (set_cell a (collected floor (cells a)) cells) (places regions) (past_collected floor (cells a) past) ≡ past_over floor cells (places regions) past
 past_over_set floor regions a cells past rises there low =
     omega (arith, past_moved floor a cells past (places regions), past_reached floor a cells past (places regions) (occurs_once a regions rises there low))
@@ -197,10 +198,10 @@ absent_behind a (e ∷ es) behind = ap (λ (o : Ordering). cond (is_eq o) (Some 
 
 module _ (count : Option Cell → ℕ) (regions : List ℕ) (none : count None ≡ 0) (rises : Rises regions) where
   total_listed : (es : List (Addr × Cell)) → IsStrictlySortedBy addr_order (keys_of es)
-      → ((a : Addr) (c : Cell) → cells_in es a ≡ Some c → In a.region regions × (a.offset < width)) → total count (cells_in es) (places regions) ≡ sum_of (λ c. count (Some c)) es
+      → ((a : Addr) (c : Cell) → cells_in es a ≡ Some c → IsAmong a.region regions × (a.offset < width)) → total count (cells_in es) (places regions) ≡ sum_of (λ c. count (Some c)) es
   total_listed [] ordered placed = total_nothing count (places regions) none
   total_listed (e ∷ es) ordered placed =
-      let here : In e.0.region regions × (e.0.offset < width) = placed e.0 e.1 (ap (λ (g : Bool). cond g (Some e.1) (cells_in es e.0)) (same_self e.0)) in
+      let here : IsAmong e.0.region regions × (e.0.offset < width) = placed e.0 e.1 (ap (λ (g : Bool). cond g (Some e.1) (cells_in es e.0)) (same_self e.0)) in
       let first : total count (cells_in (e ∷ es)) (places regions) ≡ total count (set_cell e.0 (Some e.1) (cells_in es)) (places regions) = ap (λ (cells : Addr → Option Cell). total count cells (places regions)) (cells_cons e es) in
       let change : total count (set_cell e.0 (Some e.1) (cells_in es)) (places regions) + count (cells_in es e.0) ≡ total count (cells_in es) (places regions) + count (Some e.1)
       = total_set count regions e.0 (Some e.1) (cells_in es) rises here.0 here.1 in
@@ -208,11 +209,11 @@ module _ (count : Option Cell → ℕ) (regions : List ℕ) (none : count None �
       let others : total count (cells_in es) (places regions) ≡ sum_of (λ c. count (Some c)) es
       = total_listed es (sorted_tail addr_order e.0 (keys_of es) ordered) (λ a c there. behind a c there (same_addr a e.0) refl) in
       omega arith where
-        behind : (a : Addr) (c : Cell) → cells_in es a ≡ Some c → (g : Bool) → same_addr a e.0 ≡ g → In a.region regions × (a.offset < width)
+        behind : (a : Addr) (c : Cell) → cells_in es a ≡ Some c → (g : Bool) → same_addr a e.0 ≡ g → IsAmong a.region regions × (a.offset < width)
         behind a c there true is = placed a e.1 (ap (λ (g : Bool). cond g (Some e.1) (cells_in es a)) is)
         behind a c there false is = placed a c (ap (λ (g : Bool). cond g (Some e.1) (cells_in es a)) is ∙ there)
 
 pub total_entries : (count : Option Cell → ℕ) (objects : BTreeMap Addr Cell) (regions : List ℕ) → count None ≡ 0 → IsOrdered addr_order objects → Rises regions
-    → ((a : Addr) (c : Cell) → cells_of objects a ≡ Some c → In a.region regions × (a.offset < width))
+    → ((a : Addr) (c : Cell) → cells_of objects a ≡ Some c → IsAmong a.region regions × (a.offset < width))
     → total count (cells_of objects) (places regions) ≡ sum_of (λ c. count (Some c)) objects.entries
 total_entries count objects regions none ordered rises placed = total_listed count regions none rises objects.entries ordered placed

@@ -15,12 +15,12 @@ use Rattle.farm_node.specs.declared.faults.LockFault.TheVariants.{Held as LockHe
 use Rattle.farm_node.specs.declared.entry.Entry.{Entry}
 use Rattle.farm_node.specs.declared.entry.Entry.TheVariants.{Read, Alloc, Lock}
 use Rattle.farm_node.specs.Cell.{Bytes, Cell, read_answer}
-use Rattle.farm_node.specs.Plain.{Plain, Adds}
+use Rattle.farm_node.specs.NodeState.{NodeState, Adds}
 
 -- a state with the entry that was made, or the same state where none was
-abbrev pub Gives : Plain → Option Entry → Plain → Type 0
-Gives p None q = q ≡ p
-Gives p (Some e) q = Adds p e q
+abbrev pub AddsIfMade : NodeState → Option Entry → NodeState → Type 0
+AddsIfMade p None q = q ≡ p
+AddsIfMade p (Some e) q = Adds p e q
 
 abbrev pub read_entry : ℕ → Addr → ℕ → Result Found ReadFault → Option Entry
 read_entry k a s (Ok found) = Some (Read k a s (Ok found))
@@ -31,9 +31,9 @@ abbrev pub alloc_entry : TxnId → ℕ → Bytes → Result Placed PlaceFault �
 alloc_entry t r v (Ok placed) = Some (Alloc t r v placed)
 alloc_entry t r v (Err fault) = None
 
-abbrev pub lock_fault : CheckFault → LockFault
-lock_fault (Held by) = LockHeld by
-lock_fault (Changed seen now) = LockChanged seen now
+abbrev pub fault_of_check : CheckFault → LockFault
+fault_of_check (Held by) = LockHeld by
+fault_of_check (Changed seen now) = LockChanged seen now
 
 abbrev pub lock_entry : TxnId → Addr → ℕ → Option Bytes → Result Locked LockFault → Option Entry
 lock_entry t a r new (Ok locked) = Some (Lock t a r new (Ok locked))

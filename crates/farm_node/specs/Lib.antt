@@ -1,5 +1,5 @@
 pub mod Cell
-pub mod Plain
+pub mod NodeState
 pub mod Story
 pub mod Laws
 pub mod Puts

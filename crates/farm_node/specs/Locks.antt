@@ -8,9 +8,11 @@ use Rattle.farm_node.specs.declared.entry.CheckFault.TheVariants.{Held, Changed}
 use Rattle.farm_node.specs.declared.entry.Entry.{Entry}
 use Rattle.farm_node.specs.declared.entry.Entry.TheVariants.{Open, Read, Alloc, Lock, Check, Collect}
 use Rattle.farm_node.specs.Cell.{Cell}
-use Rattle.farm_node.specs.Plain.{IsStamp, Lawful, replay}
+use Rattle.farm_node.specs.NodeState.{Lawful, replay}
+use Rattle.a1_base.specs.Stamps.{IsStamp}
 use Rattle.farm_node.specs.Story.{Installed, story, number_of}
-use Rattle.farm_node.specs.Laws.{Each, Among}
+use Rattle.a1_base.specs.Lists.{IsAmong}
+use Rattle.std.specs.List.{AllByRecursion}
 
 -- the entry is another's
 abbrev pub IsOther : ℕ → Entry → Type 0
@@ -38,15 +40,15 @@ pub record LocksHold : Type 0 where
   -- the newest version is at most the bound
   pub below : (log : List Entry) (a : Addr) (c : Cell) → Lawful log → (replay log).cells a ≡ Some c → newest c.versions ≤ c.bound
   -- through entries of others a held address keeps its lock with the value that waits, its bound and its newest version
-  pub stays : (before rest : List Entry) (a : Addr) (c : Cell) (h : Hold) → Lawful (before ++ rest) → (replay before).cells a ≡ Some c → c.lock ≡ Some h → Each (IsOther h.by.actor) rest
+  pub stays : (before rest : List Entry) (a : Addr) (c : Cell) (h : Hold) → Lawful (before ++ rest) → (replay before).cells a ≡ Some c → c.lock ≡ Some h → AllByRecursion (IsOther h.by.actor) rest
       → (d : Cell) × ((replay (before ++ rest)).cells a ≡ Some d) × (d.lock ≡ Some h) × (d.bound ≡ c.bound) × (newest d.versions ≡ newest c.versions)
   -- through entries of others a pin stays
-  pub pin : (before rest : List Entry) (k : ℕ) → Lawful (before ++ rest) → Each (IsOther k) rest → (replay (before ++ rest)).pins k ≡ (replay before).pins k
+  pub pin : (before rest : List Entry) (k : ℕ) → Lawful (before ++ rest) → AllByRecursion (IsOther k) rest → (replay (before ++ rest)).pins k ≡ (replay before).pins k
   -- who is blamed as the holder took the lock by an entry of its own
-  pub holder : (before rest : List Entry) (e : Entry) (t : TxnId) (a : Addr) → Lawful (before ++ e ∷ rest) → BlamesHolder t a e → (d : Entry) × Among d before × Takes t a d
+  pub holder : (before rest : List Entry) (e : Entry) (t : TxnId) (a : Addr) → Lawful (before ++ e ∷ rest) → BlamesHolder t a e → (d : Entry) × IsAmong d before × Takes t a d
   -- the stamp that is blamed is that of an actor's put, above the read stamp
   pub change : (before rest : List Entry) (e : Entry) (r now : ℕ) (a : Addr) → Lawful (before ++ e ∷ rest) → BlamesPut r now a e
-      → (i : Installed) × Among i (story a before).puts × (i.stamp ≡ now) × (r < now) × (0 < i.by.actor)
+      → (i : Installed) × IsAmong i (story a before).puts × (i.stamp ≡ now) × (r < now) × (0 < i.by.actor)
 
 abbrev pub StampsBelow : List Version → Type 0
 StampsBelow [] = Unit {0}

@@ -6,7 +6,7 @@ use Rattle.farm_node.specs.declared.entry.Start.{Start}
 use Rattle.farm_node.specs.declared.entry.Entry.{Entry}
 use Rattle.farm_node.specs.declared.entry.Entry.TheVariants.{Made}
 use Rattle.farm_node.specs.Cell.{Bytes}
-use Rattle.farm_node.specs.Plain.{Adds}
+use Rattle.farm_node.specs.NodeState.{Adds}
 use Rattle.farm_node.specs.State.{with_objects, CanLoad}
 use Rattle.farm_node.specs.Node.{plain_of, StandsFor}
 
@@ -15,7 +15,7 @@ abbrev pub with_heap : Start → List (Addr × Bytes) → Start
 with_heap m [] = m
 with_heap m (x ∷ xs) = with_heap (record m { heap = x ∷ m.heap }) xs
 
-pub record NodesStand : Type 0 where
+pub record ListsGoOn : Type 0 where
   -- a call that adds one lawful entry leads from a list to that list with the entry behind it
   pub more : (old new : Node) (log : List Entry) (e : Entry) → StandsFor old log → Adds (plain_of old) e (plain_of new) → StandsFor new (log ++ e ∷ [])
   -- before any event, loading changes what the first entry says was loaded

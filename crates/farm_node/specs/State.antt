@@ -8,14 +8,14 @@ use Rattle.object_region.specs.Occupancy.{addr_order, same_addr, add_region, Occ
 use Rattle.farm_node.specs.declared.hold.Hold.{Hold}
 use Rattle.farm_node.specs.declared.swept.Swept.{Swept}
 use Rattle.farm_node.specs.Cell.{Bytes, Cell, same_txn, found_at, is_settled, loaded_cell, locked_by, goes, collected, past_collected, versions_in}
-use Rattle.farm_node.specs.Plain.{Plain, set_cell, occupancy}
+use Rattle.farm_node.specs.NodeState.{NodeState, set_cell, occupancy}
 
 -- the cell at each address
 abbrev pub cells_of : BTreeMap Addr Cell → Addr → Option Cell
 cells_of objects a = get addr_order objects a
 
 -- the state of the fields
-abbrev pub plain_from : BTreeMap Addr Cell → Occupancy → List (Option ℕ) → ℕ → ℕ → ℕ → Plain
+abbrev pub plain_from : BTreeMap Addr Cell → Occupancy → List (Option ℕ) → ℕ → ℕ → ℕ → NodeState
 plain_from objects places pins past floor actors = record {
   cells = cells_of objects;
   regions = places.regions;
@@ -44,21 +44,21 @@ abbrev pub IsTracked : BTreeMap Addr Cell → List Addr → Type 0
 IsTracked objects touched = (a : Addr) → (settled_there (cells_of objects a) || list_any (same_addr a) touched) ≡ true
 
 -- an object more, by which its region is made
-abbrev pub with_cell : Addr → Cell → Plain → Plain
+abbrev pub with_cell : Addr → Cell → NodeState → NodeState
 with_cell a c p = record p { cells = set_cell a (Some c) p.cells; regions = add_region a.region p.regions }
 
 -- a lock that is given
-abbrev pub with_lock : Addr → TxnId → Option Bytes → Plain → Plain
+abbrev pub with_lock : Addr → TxnId → Option Bytes → NodeState → NodeState
 with_lock a t new p = record p { cells = set_cell a (locked_by t new (p.cells a)) p.cells }
 
 -- objects loaded one after another, each with one version at the stamp of the start, which is the floor until the
 -- first collection
-abbrev pub with_objects : Plain → List (Addr × Bytes) → Plain
+abbrev pub with_objects : NodeState → List (Addr × Bytes) → NodeState
 with_objects p [] = p
 with_objects p (x ∷ xs) = with_objects (with_cell x.0 (loaded_cell p.floor x.1) p) xs
 
 -- each object has a place of the node that is free when its turn comes, so no place stands twice
-abbrev pub CanLoad : Plain → List (Addr × Bytes) → Type 0
+abbrev pub CanLoad : NodeState → List (Addr × Bytes) → Type 0
 CanLoad p [] = Unit {0}
 CanLoad p (x ∷ xs) = IsPlace (occupancy p) x.0 × (p.cells x.0 ≡ None) × CanLoad (with_cell x.0 (loaded_cell p.floor x.1) p) xs
 
@@ -86,8 +86,8 @@ may_lock t r None = false
 may_lock t r (Some c) = cond (has_lock t c.lock) (is_new (Some c)) (has_value r c)
 
 -- without the object there; past rises to its bound
-abbrev pub given_back : Addr → Plain → Plain
-given_back a p = elim (p.cells a) as (λ _. Plain) [ None ↦ p | Some c ↦ record p { cells = set_cell a None p.cells; past = max p.past c.bound } ]
+abbrev pub given_back : Addr → NodeState → NodeState
+given_back a p = elim (p.cells a) as (λ _. NodeState) [ None ↦ p | Some c ↦ record p { cells = set_cell a None p.cells; past = max p.past c.bound } ]
 
 -- collecting at one address
 
@@ -111,11 +111,11 @@ pub record SweepsCell (floor : ℕ) (c : Option Cell) (swept : Swept) : Type 0 w
   pub stays : swept.stays ≡ not (settled_there (collected floor c))
 
 -- a state in which one address was collected
-abbrev pub collected_at : ℕ → Addr → Plain → Plain
+abbrev pub collected_at : ℕ → Addr → NodeState → NodeState
 collected_at floor a p = record p { cells = set_cell a (collected floor (p.cells a)) p.cells; past = past_collected floor (p.cells a) p.past }
 
 -- the next touched address was collected, and stands last where something is left
-abbrev pub SweepsNext : ℕ → List Addr → Plain → ℕ × Bool → List Addr → Plain → Type 0
+abbrev pub SweepsNext : ℕ → List Addr → NodeState → ℕ × Bool → List Addr → NodeState → Type 0
 SweepsNext floor [] p result touched q = (q ≡ p) × (touched ≡ []) × (result ≡ (0, false))
 SweepsNext floor (a ∷ rest) p result touched q =
     (q ≡ collected_at floor a p) × (result.0 + versions_in (q.cells a) ≡ versions_in (p.cells a)) × (result.1 ≡ goes_there floor (p.cells a)) × ((touched ≡ rest) ⊎ (touched ≡ rest ++ a ∷ []))

@@ -82,12 +82,12 @@ abbrev pub versions_of : List Installed → List Version
 versions_of puts = map version_of puts
 
 -- bytes with their stamp, or nothing
-abbrev pub seen : Found → Option (ℕ × Bytes)
-seen f = elim f.value as (λ _. Option (ℕ × Bytes)) [ None ↦ None | Some v ↦ Some (f.stamp, v) ]
+abbrev pub stamped_bytes : Found → Option (ℕ × Bytes)
+stamped_bytes f = elim f.value as (λ _. Option (ℕ × Bytes)) [ None ↦ None | Some v ↦ Some (f.stamp, v) ]
 
 -- the value at a stamp, whatever was collected: bytes with the stamp of their put, or nothing
 abbrev pub value_at : List Entry → Addr → ℕ → Option (ℕ × Bytes)
-value_at log a s = seen (found_at s (versions_of (story a log).puts))
+value_at log a s = stamped_bytes (found_at s (versions_of (story a log).puts))
 
 -- the actor of an entry, and 0 for the first one
 abbrev pub number_of : Entry → ℕ
@@ -101,7 +101,3 @@ number_of (Check t a r w answer) = t.actor
 number_of (Put t a w) = t.actor
 number_of (Unlock t a) = t.actor
 number_of (Collect k f removed) = k
-
--- the entries of one actor
-abbrev pub own : ℕ → List Entry → List Entry
-own k log = filter (λ e. number_of e == k) log

@@ -35,9 +35,9 @@ pub enum LockFault {
 }
 
 impl From<CheckFault> for LockFault {
-    ghost use Rattle.farm_node.specs.Answers.{lock_fault};
+    ghost use Rattle.farm_node.specs.Answers.{fault_of_check};
 
-    ghost from_gives = { λ fault answer. answer ≡ lock_fault fault };
+    ghost from_gives = { λ fault answer. answer ≡ fault_of_check fault };
 
     fn from(fault: CheckFault) -> Self {
         match fault {

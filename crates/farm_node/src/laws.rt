@@ -2,7 +2,7 @@
 ghost use Rattle.farm_node.specs.Laws.{ReadsHold, PinsHold, MineDecides};
 ghost use Rattle.farm_node.specs.Puts.{PutsHold};
 ghost use Rattle.farm_node.specs.Locks.{LocksHold, RangesHold};
-ghost use Rattle.farm_node.specs.Standing.{NodesStand};
+ghost use Rattle.farm_node.specs.Standing.{ListsGoOn};
 
 /// What a read answered is the value at its stamp in every longer list, and where an object was made, nothing is there
 /// at its transaction's read stamp.
@@ -39,6 +39,6 @@ pub fn ranges_hold()
 
 /// Each event leads from a list that a node stands for to that list with one entry more, and loading changes the first
 /// entry alone.
-pub fn nodes_stand()
-    ensures { NodesStand }
+pub fn lists_go_on()
+    ensures { ListsGoOn }
 {}

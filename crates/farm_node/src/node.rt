@@ -1,10 +1,11 @@
 //! A node and its events.
 ghost use Rattle.std.specs.Prelude.{◌≡◌, ◌+◌, ◌-◌, ◌<◌, ◌++◌, ◌∷◌, [], if◌then◌else◌, ℕ, true, false, Some, None, is_some, length, IfOk, IfSome, OnOk, OnErr, slice_index_or, vec_len};
 ghost use Rattle.std.specs.VecDeque.{deque_len, deque_capacity};
+ghost use Rattle.a1_base.specs.declared.limits.TheConstants.{NODE_LIMIT};
 ghost use Rattle.object_region.specs.Occupancy.{IsPlace, IsFree, with_place, without_place};
 ghost use Rattle.object_region.specs.Regions.{occupancy_of};
 ghost use Rattle.farm_node.specs.Cell.{collected};
-ghost use Rattle.farm_node.specs.Plain.{set_cell, lesser, least_pin};
+ghost use Rattle.farm_node.specs.NodeState.{set_cell, lesser, least_pin};
 ghost use Rattle.farm_node.specs.State.{cells_of, AgreesWith, IsTracked, SweepsCell, goes_there, past_with};
 
 use crate::entry::{CheckFault, Collected, Found, Locked, Placed};
@@ -43,8 +44,9 @@ impl Node {
     ghost use Rattle.farm_node.specs.declared.entry.Start.{Start};
     ghost use Rattle.farm_node.specs.declared.entry.Entry.TheVariants.{Made, Open, Shut, Check, Put, Unlock, Collect};
     ghost use Rattle.farm_node.specs.Cell.{made_by, loaded_cell, lock_answer, is_settled};
-    ghost use Rattle.farm_node.specs.Plain.{IsStamp, PinnedBy, HeldBy, MayLock, MayPut, Adds, occupancy, counted, object_count, version_count, after_collect};
-    ghost use Rattle.farm_node.specs.Answers.{Gives, read_entry, alloc_entry, lock_entry};
+    ghost use Rattle.farm_node.specs.NodeState.{PinnedBy, HeldBy, MayLock, MayPut, Adds, occupancy, counted, object_count, version_count, after_collect};
+    ghost use Rattle.a1_base.specs.Stamps.{IsStamp};
+    ghost use Rattle.farm_node.specs.Answers.{read_entry, alloc_entry, lock_entry, AddsIfMade};
     ghost use Rattle.farm_node.specs.State.{is_new, given_back, is_settled_there, holds_there, may_lock, with_cell, with_lock, with_objects, CanLoad, SweepsNext};
     ghost use Rattle.farm_node.specs.Node.{plain_of, StandsFor};
     ghost use Rattle.farm_node.specs.Standing.{with_heap};
@@ -58,7 +60,7 @@ impl Node {
         actors: u32,
         stamp: u64,
     ) -> Result<Node, Memory>
-        requires nodes { nodes ≤ 16 }
+        requires nodes { nodes ≤ NODE_LIMIT }
         requires node { node < nodes }
         requires stamp { (0 < stamp) × IsStamp stamp }
         ensures { IfOk result (λ n. StandsFor n (Made (record { node = node; nodes = nodes; actors = actors; stamp = stamp; heap = [] }) ∷ [])) }
@@ -101,7 +103,7 @@ impl Node {
     pub fn read(&mut self, alloc: Global, actor: u32, at: Addr, s: u64) -> Result<Found, ReadFault>
         requires pinned { PinnedBy (plain_of self.old) actor s }
         requires stamp { IsStamp s }
-        ensures { Gives (plain_of self.old) (read_entry actor at s result) (plain_of self.new) }
+        ensures { AddsIfMade (plain_of self.old) (read_entry actor at s result) (plain_of self.new) }
     {
         match self.objects.get_mut(&at) {
             Some(object) => object.read(alloc, s),
@@ -129,7 +131,7 @@ impl Node {
     ) -> Result<Placed, PlaceFault>
         requires pinned { PinnedBy (plain_of self.old) t.actor r }
         requires stamp { IsStamp r }
-        ensures made { Gives (plain_of self.old) (alloc_entry t r bytes result) (plain_of self.new) }
+        ensures made { AddsIfMade (plain_of self.old) (alloc_entry t r bytes result) (plain_of self.new) }
         ensures spent { (result ≡ Err PlaceFault.Spent) ↔ IsSpent (occupancy (plain_of self.old)) }
     {
         let Some(at) = self.places.least_free() else {
@@ -242,7 +244,7 @@ impl Node {
         requires pinned { PinnedBy (plain_of self.old) t.actor r }
         requires stamp { IsStamp r }
         requires may { MayLock (plain_of self.old) t at r }
-        ensures { Gives (plain_of self.old) (lock_entry t at r new result) (plain_of self.new) }
+        ensures { AddsIfMade (plain_of self.old) (lock_entry t at r new result) (plain_of self.new) }
     {
         let (locked, settled) = self.ask_lock(t, at, r)?;
         if settled {

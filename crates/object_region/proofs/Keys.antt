@@ -10,7 +10,8 @@ use Rattle.std.proofs.lemmas.Bool.{cases_eq, cases_lt}
 use Rattle.std.proofs.lemmas.Bool.Decides.{nat_tests}
 use Rattle.std.proofs.lemmas.Map.Keys.{sorted_head, sorted_tail}
 use Rattle.object_region.specs.declared.places.Made.{Made}
-use Rattle.object_region.specs.Occupancy.{In, add_region}
+use Rattle.object_region.specs.Occupancy.{add_region}
+use Rattle.a1_base.specs.Lists.{IsAmong}
 use Rattle.object_region.specs.Regions.{made_at}
 
 pub at_is_eqb : (k q : ℕ) → is_eq (nat_cmp k q) ≡ eqb k q
@@ -32,7 +33,7 @@ made_here q e es same = let t : is_eq (nat_cmp q e.0) ≡ true = grind (arith, n
 made_later : (q : ℕ) (e : ℕ × Made) (es : List (ℕ × Made)) → (e.0 ≡ q → ⊥) → made_at (e ∷ es) q ≡ made_at es q
 made_later q e es other = let t : is_eq (nat_cmp q e.0) ≡ false = grind (arith, nat_tests) in ap (λ b. cond b (Some e.1) (made_at es q)) t
 
-pub made_from_In : (q : ℕ) (made : List (ℕ × Made)) → In q (keys_of made) → IsSome (made_at made q)
+pub made_from_In : (q : ℕ) (made : List (ℕ × Made)) → IsAmong q (keys_of made) → IsSome (made_at made q)
 made_from_In q [] h = absurd h
 made_from_In q (e ∷ es) (inl same) = rw (made_here q e es same) refl
 made_from_In q (e ∷ es) (inr later) =
@@ -41,7 +42,7 @@ made_from_In q (e ∷ es) (inr later) =
       | inr other ↦ rw (made_later q e es other) (made_from_In q es later)
     ]
 
-pub In_from_made : (q : ℕ) (made : List (ℕ × Made)) → IsSome (made_at made q) → In q (keys_of made)
+pub In_from_made : (q : ℕ) (made : List (ℕ × Made)) → IsSome (made_at made q) → IsAmong q (keys_of made)
 In_from_made q [] h = cc
 In_from_made q (e ∷ es) h =
     elim (cases_eq e.0 q) [
@@ -54,13 +55,13 @@ pub keys_insert_entry : (k : ℕ) (w : Made) (made : List (ℕ × Made)) → key
 keys_insert_entry k w [] = refl
 keys_insert_entry k w (e ∷ es) = let more = keys_insert_entry k w es in grind (arith, nat_tests, more)
 
-below_later : (m k : ℕ) (ms : List ℕ) → AllByRecursion (λ y. nat_cmp m y ≡ Less) ms → In k ms → m < k
+below_later : (m k : ℕ) (ms : List ℕ) → AllByRecursion (λ y. nat_cmp m y ≡ Less) ms → IsAmong k ms → m < k
 below_later m k [] up h = absurd h
 below_later m k (y ∷ ys) up (inl same) = let here = up.0 in grind (arith, nat_tests)
 below_later m k (y ∷ ys) up (inr later) = below_later m k ys up.1 later
 
 -- a number that is there
-pub add_region_there : (k : ℕ) (ks : List ℕ) → IsStrictlySortedBy nat_cmp ks → In k ks → add_region k ks ≡ ks
+pub add_region_there : (k : ℕ) (ks : List ℕ) → IsStrictlySortedBy nat_cmp ks → IsAmong k ks → add_region k ks ≡ ks
 add_region_there k [] up h = absurd h
 add_region_there k (m ∷ ms) up (inl same) = grind (arith, nat_tests)
 add_region_there k (m ∷ ms) up (inr later) =
@@ -72,7 +73,7 @@ pub add_region_twice : (k : ℕ) (ks : List ℕ) → add_region k (add_region k 
 add_region_twice k [] = grind (arith, nat_tests)
 add_region_twice k (m ∷ ms) = let more = add_region_twice k ms in grind (arith, nat_tests, more)
 
-pub In_added : (k : ℕ) (ks : List ℕ) → In k (add_region k ks)
+pub In_added : (k : ℕ) (ks : List ℕ) → IsAmong k (add_region k ks)
 In_added k [] = inl refl
 In_added k (m ∷ ms) =
     let more = In_added k ms in

@@ -3,14 +3,16 @@ use Rattle.std.specs.Prelude.{◌≡◌, ℕ, ◌+◌, ◌*◌, ◌<◌, Bool, t
 use Rattle.std.specs.Ordering.{nat_cmp, ordering_then, is_eq}
 use Rattle.std.specs.declared.cmp.Ordering.{Ordering}
 use Rattle.a1_base.specs.declared.place.Addr.{Addr}
+use Rattle.a1_base.specs.declared.limits.TheConstants.{REGION_WIDTH, REGION_LIMIT}
+use Rattle.a1_base.specs.Lists.{IsAmong}
 
 -- how many places a region has
 unfoldable pub width : ℕ
-width = 4096
+width = REGION_WIDTH
 
 -- how many regions a node has
 unfoldable pub region_count : ℕ
-region_count = 1048576
+region_count = REGION_LIMIT
 
 -- by region, then by offset
 abbrev pub addr_order : Addr → Addr → Ordering
@@ -18,10 +20,6 @@ addr_order a b = ordering_then (nat_cmp a.region b.region) (nat_cmp a.offset b.o
 
 abbrev pub same_addr : Addr → Addr → Bool
 same_addr a b = is_eq (addr_order a b)
-
-abbrev pub In : ℕ → List ℕ → Type 0
-In n [] = ⊥
-In n (m ∷ ms) = (m ≡ n) ⊎ In n ms
 
 -- into a rising list, once
 abbrev pub add_region : ℕ → List ℕ → List ℕ
@@ -48,15 +46,15 @@ IsFree o a = o.taken a ≡ false
 
 -- it lies in a made region, and each place of the made regions before it is taken
 pub record LeastOfMade (o : Occupancy) (a : Addr) : Type 0 where
-  pub region_made : In a.region o.regions
-  pub below_taken : (b : Addr) → In b.region o.regions → b.offset < width
+  pub region_made : IsAmong a.region o.regions
+  pub below_taken : (b : Addr) → IsAmong b.region o.regions → b.offset < width
       → (b.region < a.region) ⊎ ((b.region ≡ a.region) × (b.offset < a.offset)) → o.taken b ≡ true
 
 -- no made region has a free place: it is the first place of the lowest region that is not made
 pub record FirstOfNext (o : Occupancy) (a : Addr) : Type 0 where
-  pub all_taken : (b : Addr) → In b.region o.regions → b.offset < width → o.taken b ≡ true
-  pub not_made : In a.region o.regions → ⊥
-  pub lower_made : (k : ℕ) → o.node + k * o.nodes < a.region → In (o.node + k * o.nodes) o.regions
+  pub all_taken : (b : Addr) → IsAmong b.region o.regions → b.offset < width → o.taken b ≡ true
+  pub not_made : IsAmong a.region o.regions → ⊥
+  pub lower_made : (k : ℕ) → o.node + k * o.nodes < a.region → IsAmong (o.node + k * o.nodes) o.regions
   pub first : a.offset ≡ 0
 
 -- the place that comes next: the least free one of the made regions, else the first of the lowest region not made
@@ -89,4 +87,4 @@ Rises (n ∷ ns) = IsBelow n ns × Rises ns
 -- what holds of the places of a node at all times
 pub record IsOccupancy (o : Occupancy) : Type 0 where
   pub rising : Rises o.regions
-  pub placed : (a : Addr) → o.taken a ≡ true → In a.region o.regions × (a.offset < width)
+  pub placed : (a : Addr) → o.taken a ≡ true → IsAmong a.region o.regions × (a.offset < width)

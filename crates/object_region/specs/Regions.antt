@@ -6,6 +6,7 @@ use Rattle.std.specs.Map.{lookup, keys_of}
 use Rattle.std.specs.BTreeMap.{is_at}
 use Rattle.std.specs.BinaryHeap.{IsHeap}
 use Rattle.std.specs.declared.cmp.Reverse.{Reverse}
+use Rattle.a1_base.specs.declared.limits.TheConstants.{NODE_LIMIT}
 use Rattle.object_region.specs.declared.places.Made.{Made}
 use Rattle.object_region.specs.Flags.{is_taken, IsFull}
 use Rattle.object_region.specs.Occupancy.{Occupancy, region_count, add_region}
@@ -74,7 +75,7 @@ numbers xs = map (λ x. x.0) xs
 -- that is not listed is full; and the first `next` regions of the node are made
 pub record IsKept (node nodes next : ℕ) (made : List (ℕ × Made)) (open_regions : List (Reverse ℕ)) (room : ℕ) : Type 0 where
   pub some_node : node < nodes
-  pub few_nodes : nodes ≤ 16
+  pub few_nodes : nodes ≤ NODE_LIMIT
   pub within : next ≤ region_count
   pub below_made : (k : ℕ) → k < next → IsSome (made_at made (node + k * nodes))
   pub of_node : (q : ℕ) → IsSome (made_at made q) → IsRegion node nodes q

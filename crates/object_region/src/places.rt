@@ -1,5 +1,6 @@
 //! Which places of a node are taken.
 ghost use Rattle.std.specs.Prelude.{◌≡◌, ◌+◌, ◌*◌, ◌≤◌, ◌<◌, ◌↔◌, ℕ, true, length, IsSome, IfSome, IfNone, IfOk, OnOk, OnErr, Err};
+ghost use Rattle.a1_base.specs.declared.limits.TheConstants.{NODE_LIMIT};
 ghost use Rattle.object_region.specs.Occupancy.{width, region_count, vacant, IsPlace, IsFree, LeastFree, IsSpent, IsOccupancy, with_place, without_place};
 ghost use Rattle.object_region.specs.Flags.{IsFirstFree};
 ghost use Rattle.object_region.specs.Regions.{occupancy_of, with_region, made_at, listed_count, IsRegion, IsFullAt, IsLowestListed, IsLowestUnmade};
@@ -64,7 +65,7 @@ impl Model for Places {
 impl Places {
     /// The places of the node number `node` of `nodes`, of which there are at most 16; none is taken.
     pub fn new(alloc: Global, node: u32, nodes: u32) -> Places
-        requires nodes { nodes ≤ 16 }
+        requires nodes { nodes ≤ NODE_LIMIT }
         requires node { node < nodes }
         ensures { occupancy_of result ≡ vacant node nodes }
     {

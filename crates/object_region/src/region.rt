@@ -3,12 +3,9 @@ ghost use Rattle.std.specs.Prelude.{◌≡◌, ◌<◌, ◌==◌, ◌&&◌, ◌|
 ghost use Rattle.object_region.specs.Occupancy.{width};
 ghost use Rattle.object_region.specs.Flags.{is_taken, IsFull, IsFirstFree};
 
-use a1_base::Memory;
+use a1_base::{Memory, REGION_WIDTH};
 use std::alloc::Global;
 use std::marker::Model;
-
-/// How many places a region has.
-const WIDTH: u32 = 4_096;
 
 /// The places of a region, which contracts see as a flag for each place: whether it is taken.
 #[derive(Drop)]
@@ -37,7 +34,7 @@ impl Region {
         ensures { IfOk result (λ r. (k : ℕ) → is_taken r k ≡ false) }
     {
         Ok(Region {
-            taken: free_places(alloc, WIDTH as usize)?,
+            taken: free_places(alloc, REGION_WIDTH as usize)?,
             low: 0,
         })
     }
@@ -49,7 +46,7 @@ impl Region {
         ensures free { IfSome result (λ offset. IsFirstFree self.old offset) }
         ensures full { IfNone result (IsFull self.old) }
     {
-        while self.low < WIDTH {
+        while self.low < REGION_WIDTH {
             if !self.taken[self.low as usize] {
                 return Some(self.low);
             }

@@ -1,6 +1,7 @@
 -- A script: its lines, and the sessions that they make up.
 use Rattle.std.specs.Prelude.{◌≡◌, ℕ, ◌+◌, ◌-◌, ◌*◌, List, [], ◌∷◌, ◌++◌, length, sum_by, Bool, ◌==◌, ◌&&◌, nat_lt, nat_le, if◌then◌else◌, filter, map, Result, Ok, Err, Option, Some, None, option_and_then, ⊤}
 use Rattle.std.specs.List.{flat_map, list_any}
+use Rattle.a1_base.specs.declared.limits.TheConstants.{SCRIPT_LIMIT, LINE_LIMIT}
 use Rattle.answer_text.specs.declared.transcript.Line as whole
 use Rattle.answer_text.specs.declared.transcript.Transcript.{Transcript}
 use Rattle.run_text.specs.declared.script.ScriptFault.{ScriptFault}
@@ -19,14 +20,6 @@ lines_in [] = []
 lines_in (b ∷ bs) = if b == 10 then [] ∷ lines_in bs else onto (b ∷ []) (lines_in bs)
 
 -- ---- one line
-
--- the most bytes of a script
-abbrev pub script_limit : ℕ
-script_limit = 33554432
-
--- the most bytes of a line without its end
-abbrev pub line_limit : ℕ
-line_limit = 1048576
 
 -- the numbers of the sessions that are served, rising
 abbrev pub session_numbers : List ℕ
@@ -53,7 +46,7 @@ of_session (n, request) = if is_session n then Some (n, request) else None
 
 -- the session and the request of a line that has a byte
 abbrev pub entry_in : List ℕ → Option (ℕ × List ℕ)
-entry_in line = if nat_le (length line) line_limit then option_and_then of_session (numbered line) else None
+entry_in line = if nat_le (length line) LINE_LIMIT then option_and_then of_session (numbered line) else None
 
 -- ---- all lines
 
@@ -93,7 +86,7 @@ sessions_in (Err line) = Err line
 
 -- the sessions of a script, or the number of its first line that breaks the grammar; 0 where it is too long
 unfoldable pub script_of : List ℕ → Result (List (ℕ × List (List ℕ))) ℕ
-script_of bytes = if nat_lt script_limit (length bytes) then Err 0 else sessions_in (entries_from 1 (lines_in bytes))
+script_of bytes = if nat_lt SCRIPT_LIMIT (length bytes) then Err 0 else sessions_in (entries_from 1 (lines_in bytes))
 
 abbrev pub request_count : List (ℕ × List (List ℕ)) → ℕ
 request_count sessions = sum_by (λ t. length t.1) sessions

@@ -1,6 +1,7 @@
 //! The lines of a script, one after another.
 ghost use Rattle.std.specs.Prelude.{◌≡◌, ◌<◌, ◌≤◌, ◌+◌, ◌∷◌, Ok, List, ℕ, Result, length, take, drop, map, IfOk, OnOk, IfErr, option_map, option_and_then};
-ghost use Rattle.run_text.specs.Script.{lines_in, numbered, of_session, entry_in, with_line, entries_from, script_limit};
+ghost use Rattle.run_text.specs.Script.{lines_in, numbered, of_session, entry_in, with_line, entries_from};
+ghost use Rattle.a1_base.specs.declared.limits.TheConstants.{SCRIPT_LIMIT};
 ghost use Rattle.run_text.specs.Reading.{in_first, joined, IsFaultOf};
 
 use crate::ScriptFault;
@@ -74,7 +75,7 @@ fn add_line(
 
 // The requests of the lines of a script.
 pub fn read_requests(alloc: Global, bytes: &[u8]) -> Result<Vec<Bin>, ScriptFault>
-    requires { length bytes.now ≤ script_limit }
+    requires { length bytes.now ≤ SCRIPT_LIMIT }
     ensures ok { IfOk result (λ requests. entries_from 1 (lines_in bytes.now) ≡ Ok (map in_first requests.items)) }
     ensures few { IfOk result (λ requests. length requests.items ≤ length bytes.now) }
     ensures fault { IfErr result (λ e. IsFaultOf e (entries_from 1 (lines_in bytes.now))) }

@@ -1,5 +1,6 @@
 //! Serving the lines of a session.
 ghost use Rattle.std.specs.Prelude.{◌≡◌, ◌+◌, ◌<◌, ◌^◌, [], ◌∷◌, Ok, length, map, IfOk};
+ghost use Rattle.a1_base.specs.declared.limits.TheConstants.{STAMP_LIMIT};
 ghost use Rattle.request_reader.specs.Request.{request_of};
 ghost use Rattle.request_reader.specs.Effect.{row_of, rows_in};
 ghost use Rattle.answer_text.specs.Legal.{IsLegal};
@@ -35,7 +36,7 @@ fn rows_in(alloc: Global, plain: &Plain, name: Txt) -> Result<Items<Row>, Memory
 
 // Puts a name at the next stamp, or refuses it at the clock.
 fn serve_put(alloc: Global, plain: &mut Plain, clock: &mut u64, name: &Txt) -> Reply
-    requires { clock.old < 2 ^ 62 }
+    requires { clock.old < STAMP_LIMIT }
     ensures { Step plain.old clock.old (Ok (Request.Put name.now)) result plain.new clock.new }
 {
     match plain.put_name(alloc, name) {
@@ -55,7 +56,7 @@ fn serve_put(alloc: Global, plain: &mut Plain, clock: &mut u64, name: &Txt) -> R
 
 // Serves one request at the clock.
 fn serve_request(alloc: Global, plain: &mut Plain, clock: &mut u64, request: Request) -> Reply
-    requires { clock.old < 2 ^ 62 }
+    requires { clock.old < STAMP_LIMIT }
     ensures { Step plain.old clock.old (Ok request) result plain.new clock.new }
 {
     match request {
@@ -69,7 +70,7 @@ fn serve_request(alloc: Global, plain: &mut Plain, clock: &mut u64, request: Req
 
 // Serves one line at the clock.
 fn serve_line(alloc: Global, plain: &mut Plain, clock: &mut u64, line: &[u8]) -> Reply
-    requires { clock.old < 2 ^ 62 }
+    requires { clock.old < STAMP_LIMIT }
     ensures { Step plain.old clock.old (request_of line.now) result plain.new clock.new }
 {
     match read(alloc, line) {
@@ -89,7 +90,7 @@ pub fn serve(
     number: u32,
     requests: Vec<Bin>,
 ) -> Result<Transcript, Memory>
-    requires { clock.old + length requests.items < 2 ^ 62 }
+    requires { clock.old + length requests.items < STAMP_LIMIT }
     ensures session { IfOk result (λ t. t.session ≡ number) }
     ensures requests { IfOk result (λ t. map (λ line. line.request) t.lines ≡ requests.items) }
     ensures legal { IfOk result (λ t. IsLegal plain.old clock.old (t ∷ []) []) }

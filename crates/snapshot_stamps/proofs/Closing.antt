@@ -8,17 +8,18 @@ use Rattle.a1_base.proofs.Sums.{sum_more, sum_one}
 use Rattle.snapshot_stamps.specs.declared.watch.Watch.{Watch}
 use Rattle.snapshot_stamps.specs.declared.seat.StampSeat.{StampSeat}
 use Rattle.snapshot_stamps.specs.declared.seat.Stamps.{Stamps}
-use Rattle.snapshot_stamps.specs.Watched.{last_stamp, joined, Learned}
+use Rattle.snapshot_stamps.specs.Watched.{joined, Learned}
+use Rattle.a1_base.specs.declared.limits.TheConstants.{LAST_STAMP}
 use Rattle.snapshot_stamps.specs.Clock.{times, once_between, Clock}
-use Rattle.snapshot_stamps.specs.Seats.{watch, lane_count, began_at, IsSeatOf, HaveAllLanes, Ended}
+use Rattle.snapshot_stamps.specs.Seats.{watch, lane_count, began_at, IsSeatOf, HaveAllLanes, ClockCloses}
 use Rattle.snapshot_stamps.proofs.Sums.{sum_only}
 use Rattle.snapshot_stamps.proofs.Counts.{times_append}
 use Rattle.snapshot_stamps.proofs.Steps.{no_length}
 
 -- a view with all lanes has all additions and has drawn all stamps
 pub ends : (lanes from id : ℕ) (v : Watch) (words : List ℕ) (slots : List (Unit {0})) (clock answer : ℕ)
-    → Final (Seen (Clock lanes from) id v) words slots → get_elem? words 0 ≡ some clock → length v.lanes ≡ lanes → answer ≡ min clock last_stamp
-    → (answer ≡ min (from + v.additions) last_stamp) × (v.known ≤ answer) × ((x : ℕ) → times x v.drawn ≡ once_between from answer x)
+    → Final (Seen (Clock lanes from) id v) words slots → get_elem? words 0 ≡ some clock → length v.lanes ≡ lanes → answer ≡ min clock LAST_STAMP
+    → (answer ≡ min (from + v.additions) LAST_STAMP) × (v.known ≤ answer) × ((x : ℕ) → times x v.drawn ≡ once_between from answer x)
 ends lanes from id v words slots clock answer final there all is =
     let s = final.0 in
     let k = final.1.0 in
@@ -41,7 +42,7 @@ ends lanes from id v words slots clock answer final there all is =
 
 pub ends_one : (stamps : Stamps) (s : StampSeat) (words : List ℕ) (slots : List (Unit {0})) (clock answer : ℕ)
     → Final (Seen (Clock (lane_count stamps) (began_at stamps)) s.seat.id (watch s)) words slots → get_elem? words 0 ≡ some clock
-    → length (watch s).lanes ≡ lane_count stamps → answer ≡ min clock last_stamp → Ended stamps (s ∷ []) answer
+    → length (watch s).lanes ≡ lane_count stamps → answer ≡ min clock LAST_STAMP → ClockCloses stamps (s ∷ []) answer
 ends_one stamps s words slots clock answer final there all is =
     let t = ends (lane_count stamps) (began_at stamps) s.seat.id (watch s) words slots clock answer final there all is in
     let P : StampSeat → Type 0 = λ (s : StampSeat). (watch s).known ≤ answer in
@@ -82,7 +83,7 @@ gathers_more all left v w s g l =
       known = λ n le each. g.known n (omega arith) (All-push (λ (s : StampSeat). (watch s).known ≤ n) left s each (omega arith));
     }
 
-pub ends_all : (stamps : Stamps) (all : List StampSeat) (s : StampSeat) (answer : ℕ) → Gathered all [] (watch s) → Ended stamps (s ∷ []) answer → Ended stamps all answer
+pub ends_all : (stamps : Stamps) (all : List StampSeat) (s : StampSeat) (answer : ℕ) → Gathered all [] (watch s) → ClockCloses stamps (s ∷ []) answer → ClockCloses stamps all answer
 ends_all stamps all s answer g end =
     let a = g.additions in
     let p = end.0 in

@@ -8,9 +8,10 @@ use Rattle.atomic_table.specs.Table.{State, Me, opening, keeps, Allows, Splits, 
 use Rattle.atomic_table.proofs.Lists.{set_else}
 use Rattle.a1_base.proofs.Sums.{sum_set, sum_has, sum_more, sum_le}
 use Rattle.snapshot_stamps.specs.declared.watch.Watch.{Watch}
-use Rattle.snapshot_stamps.specs.Watched.{last_stamp, lanes_from, newcomer, knowing, having_drawn, noted, first_lane, other_lanes, joined, spent}
-use Rattle.snapshot_stamps.specs.Plays.{Reads, Raises}
-use Rattle.snapshot_stamps.specs.Clock.{times, once_between, Fits, Clock}
+use Rattle.snapshot_stamps.specs.Watched.{lanes_from, newcomer, knowing, having_drawn, noted, first_lane, other_lanes, joined, spent}
+use Rattle.a1_base.specs.declared.limits.TheConstants.{LAST_STAMP}
+use Rattle.snapshot_stamps.specs.Plays.{LoadsClock, Raises}
+use Rattle.snapshot_stamps.specs.Clock.{times, once_between, WatchFits, Clock}
 use Rattle.snapshot_stamps.proofs.Sums.{sum_same, each_set, each_end}
 use Rattle.snapshot_stamps.proofs.Counts.{times_append, between_next, no_between, lanes_length, lanes_times}
 
@@ -33,7 +34,7 @@ module _ (lanes from : ℕ) where
     clock_is = ap (λ (z : List ℕ). get_or z 0 0) k.words
 
     -- the clock is far from the end of its word
-    far : k.clock < last_stamp + 2 ^ 32
+    far : k.clock < LAST_STAMP + 2 ^ 32
     far =
         let le = sum_le (λ (v : Watch). v.over) (λ (v : Watch). length v.lanes) s.views (λ i v e. (k.fits i v e).over_lanes) in
         let a = k.bounded in let b = k.lanes_out in let c = k.few in omega arith
@@ -44,9 +45,9 @@ module _ (lanes from : ℕ) where
     -- a step of the view id, by which the clock gains `more`
     module _ (id : ℕ) (v w : Watch) (more : ℕ) (at : get_elem? s.views id ≡ some v) where
       moved : (next : ℕ) → next ≡ k.clock + more → w.additions ≡ v.additions + more → w.lanes ≡ v.lanes
-          → k.clock + more + v.over ≤ last_stamp + sum_by (λ (z : Watch). z.over) s.views + w.over
-          → ((x : ℕ) → times x w.drawn + once_between from (min k.clock last_stamp) x ≡ times x v.drawn + once_between from (min (k.clock + more) last_stamp) x)
-          → Fits from (k.clock + more) w
+          → k.clock + more + v.over ≤ LAST_STAMP + sum_by (λ (z : Watch). z.over) s.views + w.over
+          → ((x : ℕ) → times x w.drawn + once_between from (min k.clock LAST_STAMP) x ≡ times x v.drawn + once_between from (min (k.clock + more) LAST_STAMP) x)
+          → WatchFits from (k.clock + more) w
           → Kept record { words = set s.words 0 next; homes = s.homes; views = set s.views id w }
       moved next is added laned over drew fit =
           let added' = sum_set (λ (z : Watch). z.additions) s.views id v w at in
@@ -61,17 +62,17 @@ module _ (lanes from : ℕ) where
             lanes_out = sum_same (λ (z : Watch). length z.lanes) s.views id v w at (ap (λ (z : List ℕ). length z) laned) ∙ k.lanes_out;
             laned = λ x. sum_same (λ (z : Watch). times x z.lanes) s.views id v w at (ap (λ (z : List ℕ). times x z) laned) ∙ k.laned x;
             bounded = omega arith;
-            fits = each_set (Fits from (k.clock + more)) s.views id w
+            fits = each_set (WatchFits from (k.clock + more)) s.views id w
                 (λ j u ne e. let o = k.fits j u e in record { known = (let r = o.known in omega arith); within = o.within; floor = o.floor; over_lanes = o.over_lanes; over_known = o.over_known; no_lane = o.no_lane; rests = o.rests })
                 fit;
           }
 
-  pub reads : (slots id : ℕ) (me : Mine) → Allows Kept slots id me 0 (λ n. n) (λ n m'. Reads n me.0 m'.0 × (m'.1 ≡ me.1))
+  pub reads : (slots id : ℕ) (me : Mine) → Allows Kept slots id me 0 (λ n. n) (λ n m'. LoadsClock n me.0 m'.0 × (m'.1 ≡ me.1))
   reads slots id me s k deep at small =
       let v : Watch = me.0 in
       let n : ℕ = get_or s.words 0 0 in
       let is : n ≡ k.clock = clock_is s k in
-      let w : Watch = knowing (min n last_stamp) v in
+      let w : Watch = knowing (min n LAST_STAMP) v in
       let mine = k.fits id v at in
       let known = mine.known in
       let end = far s k in
@@ -81,7 +82,7 @@ module _ (lanes from : ℕ) where
         keeps,
         tt,
         moved s k id v w 0 at n (omega arith) (omega arith) refl (omega arith)
-            (λ x. ap (λ (z : ℕ). times x v.drawn + once_between from (min z last_stamp) x) (omega arith))
+            (λ x. ap (λ (z : ℕ). times x v.drawn + once_between from (min z LAST_STAMP) x) (omega arith))
             record {
               known = omega arith;
               within = omega arith;
@@ -95,8 +96,8 @@ module _ (lanes from : ℕ) where
       )
 
   -- one is added below the last stamp
-  module _ (s : State (Unit {0}) Watch) (k : Kept s) (id : ℕ) (v : Watch) (at : get_elem? s.views id ≡ some v) (some_lane : 0 < length v.lanes) (less : v.known < last_stamp) where
-    draws : k.clock < last_stamp → (next : ℕ) → next ≡ k.clock + 1 → (n : ℕ) → n ≡ k.clock
+  module _ (s : State (Unit {0}) Watch) (k : Kept s) (id : ℕ) (v : Watch) (at : get_elem? s.views id ≡ some v) (some_lane : 0 < length v.lanes) (less : v.known < LAST_STAMP) where
+    draws : k.clock < LAST_STAMP → (next : ℕ) → next ≡ k.clock + 1 → (n : ℕ) → n ≡ k.clock
         → Kept record { words = set s.words 0 next; homes = s.homes; views = set s.views id (having_drawn (n + 1) v) }
     draws lt next is n here =
         let mine = k.fits id v at in
@@ -105,8 +106,8 @@ module _ (lanes from : ℕ) where
         (λ x.
         let a = times_append x v.drawn ((n + 1) ∷ []) in
         let b = between_next from k.clock x (omega arith) in
-        let c : once_between from (min k.clock last_stamp) x ≡ once_between from k.clock x = ap (λ (z : ℕ). once_between from z x) (omega arith) in
-        let d : once_between from (min (k.clock + 1) last_stamp) x ≡ once_between from (k.clock + 1) x = ap (λ (z : ℕ). once_between from z x) (omega arith) in
+        let c : once_between from (min k.clock LAST_STAMP) x ≡ once_between from k.clock x = ap (λ (z : ℕ). once_between from z x) (omega arith) in
+        let d : once_between from (min (k.clock + 1) LAST_STAMP) x ≡ once_between from (k.clock + 1) x = ap (λ (z : ℕ). once_between from z x) (omega arith) in
         let e : times x ((n + 1) ∷ []) ≡ times x ((k.clock + 1) ∷ []) = ap (λ (z : ℕ). times x ((z + 1) ∷ [])) here in
         omega arith)
         record {
@@ -120,13 +121,13 @@ module _ (lanes from : ℕ) where
         }
 
     -- one is added at the last stamp or above
-    passes : last_stamp ≤ k.clock → (next : ℕ) → next ≡ k.clock + 1
-        → Kept record { words = set s.words 0 next; homes = s.homes; views = set s.views id (record v { known = last_stamp; additions = v.additions + 1; over = v.over + 1 }) }
+    passes : LAST_STAMP ≤ k.clock → (next : ℕ) → next ≡ k.clock + 1
+        → Kept record { words = set s.words 0 next; homes = s.homes; views = set s.views id (record v { known = LAST_STAMP; additions = v.additions + 1; over = v.over + 1 }) }
     passes ge next is =
         let mine = k.fits id v at in
         let bounded = k.bounded in
         let none_yet : v.over ≡ 0 = dite (dec_lt 0 v.over) (λ (some_over : 0 < v.over). let t = mine.over_known some_over in absurd (omega arith)) (λ no. omega arith) in
-        moved s k id v (record v { known = last_stamp; additions = v.additions + 1; over = v.over + 1 }) 1 at next is refl refl (omega arith)
+        moved s k id v (record v { known = LAST_STAMP; additions = v.additions + 1; over = v.over + 1 }) 1 at next is refl refl (omega arith)
         (λ x. ap (λ (z : ℕ). times x v.drawn + once_between from z x) (omega arith))
         record {
           known = omega arith;
@@ -138,7 +139,7 @@ module _ (lanes from : ℕ) where
           rests = mine.rests;
         }
 
-  pub raises : (slots id : ℕ) (me : Mine) → 0 < length me.0.lanes → me.0.known < last_stamp
+  pub raises : (slots id : ℕ) (me : Mine) → 0 < length me.0.lanes → me.0.known < LAST_STAMP
       → Allows Kept slots id me 0 (λ n. (n + 1) % 2 ^ 64) (λ n m'. Raises n me.0 m'.0 × (m'.1 ≡ me.1))
   raises slots id me some_lane less s k deep at small =
       let v : Watch = me.0 in
@@ -149,8 +150,8 @@ module _ (lanes from : ℕ) where
       let end = far s k in
       let added = most s k id v at in
       let next : (n + 1) % 2 ^ 64 ≡ k.clock + 1 = omega arith in
-      dite (dec_lt n last_stamp)
-      (λ (lt : n < last_stamp). (
+      dite (dec_lt n LAST_STAMP)
+      (λ (lt : n < LAST_STAMP). (
         having_drawn (n + 1) v,
         keeps,
         tt,
@@ -158,7 +159,7 @@ module _ (lanes from : ℕ) where
         (((omega arith, (λ _. refl), (λ ge. absurd (omega arith))), (mine.within, omega arith, omega arith)), refl),
       ))
       (λ ge. (
-        record v { known = last_stamp; additions = v.additions + 1; over = v.over + 1 },
+        record v { known = LAST_STAMP; additions = v.additions + 1; over = v.over + 1 },
         keeps,
         tt,
         passes s k id v at some_lane less (omega arith) ((n + 1) % 2 ^ 64) next,
@@ -174,7 +175,7 @@ module _ (lanes from : ℕ) where
       laned : (x : ℕ) → times x left.lanes + times x right.lanes ≡ times x v.lanes
       over : left.over + right.over ≡ v.over
 
-    cuts : Shares → ((clock : ℕ) → Fits from clock v → Fits from clock left × Fits from clock right) → Splits Kept id v left right
+    cuts : Shares → ((clock : ℕ) → WatchFits from clock v → WatchFits from clock left × WatchFits from clock right) → Splits Kept id v left right
     cuts shares fit s k at =
         let views : List Watch = set s.views id left in
         let sum : (f : Watch → ℕ) → f left + f right ≡ f v → sum_by f (views ++ right ∷ []) ≡ sum_by f s.views
@@ -192,7 +193,7 @@ module _ (lanes from : ℕ) where
           lanes_out = sum (λ z. length z.lanes) shares.lanes_out ∙ k.lanes_out;
           laned = λ x. sum (λ z. times x z.lanes) (shares.laned x) ∙ k.laned x;
           bounded = let c = k.bounded in omega arith;
-          fits = each_end (Fits from k.clock) views right (each_set (Fits from k.clock) s.views id left (λ j u ne e. k.fits j u e) mine.0) mine.1;
+          fits = each_end (WatchFits from k.clock) views right (each_set (WatchFits from k.clock) s.views id left (λ j u ne e. k.fits j u e) mine.0) mine.1;
         }
 
   pub notes : (id : ℕ) (v : Watch) → Splits Kept id v v (noted v)
@@ -207,7 +208,7 @@ module _ (lanes from : ℕ) where
       cuts id v (first_lane v) (other_lanes v)
       record { additions = refl; drawn = λ x. refl; lanes_out = omega arith; laned = λ x. sym (times_append x (k ∷ []) ks); over = refl }
       (λ clock f.
-      let fit : (l : List ℕ) → Fits from clock (newcomer from l)
+      let fit : (l : List ℕ) → WatchFits from clock (newcomer from l)
       = λ l. record { known = f.known; within = f.within; floor = f.floor; over_lanes = omega arith; over_known = λ some_over. absurd (omega arith); no_lane = λ none. (refl, refl); rests = (refl, refl, refl) } in
       (fit (k ∷ []), fit ks))
 
@@ -240,8 +241,8 @@ module _ (lanes from : ℕ) where
         lanes_out = sum (λ z. length z.lanes) l refl ∙ k.lanes_out;
         laned = λ x. sum (λ z. times x z.lanes) (times_append x v.lanes w.lanes) refl ∙ k.laned x;
         bounded = let c = k.bounded in omega arith;
-        fits = each_set (Fits from k.clock) views other spent
-            (λ j u ne e. each_set (Fits from k.clock) s.views id both (λ j u ne e. k.fits j u e)
+        fits = each_set (WatchFits from k.clock) views other spent
+            (λ j u ne e. each_set (WatchFits from k.clock) s.views id both (λ j u ne e. k.fits j u e)
             record {
               known = omega arith;
               within = omega arith;
@@ -264,7 +265,7 @@ module _ (lanes from : ℕ) where
   alone P v p zero w e = subst P (some-injective v w e) p
   alone P v p (suc i) w e = absurd (some-ne-none w (sym e))
 
-  pub starts : lanes < 2 ^ 32 → from ≤ last_stamp → Kept (opening (from ∷ []) [] (newcomer from (lanes_from 1 lanes)))
+  pub starts : lanes < 2 ^ 32 → from ≤ LAST_STAMP → Kept (opening (from ∷ []) [] (newcomer from (lanes_from 1 lanes)))
   starts few begun =
       let l = lanes_length 1 lanes in
       record {
@@ -272,10 +273,10 @@ module _ (lanes from : ℕ) where
         words = refl;
         counted = omega arith;
         begun = begun;
-        drawn = λ x. sym (no_between from (min from last_stamp) x (omega arith));
+        drawn = λ x. sym (no_between from (min from LAST_STAMP) x (omega arith));
         few = few;
         lanes_out = omega arith;
         laned = λ x. let t = lanes_times 0 lanes x in let e : once_between 0 (0 + lanes) x ≡ once_between 0 lanes x = ap (λ (z : ℕ). once_between 0 z x) (omega arith) in omega arith;
         bounded = omega arith;
-        fits = alone (Fits from from) (newcomer from (lanes_from 1 lanes)) record { known = omega arith; within = begun; floor = omega arith; over_lanes = omega arith; over_known = λ some_over. absurd (omega arith); no_lane = λ none. (refl, refl); rests = (refl, refl, refl) };
+        fits = alone (WatchFits from from) (newcomer from (lanes_from 1 lanes)) record { known = omega arith; within = begun; floor = omega arith; over_lanes = omega arith; over_known = λ some_over. absurd (omega arith); no_lane = λ none. (refl, refl); rests = (refl, refl, refl) };
       }

@@ -5,7 +5,7 @@ use lib.ListN.{get_elem?}
 use Rattle.atomic_table.specs.Table.{State}
 use Rattle.snapshot_stamps.specs.declared.watch.Watch.{Watch}
 use Rattle.snapshot_stamps.specs.declared.watch.Mark.TheVariants.{Empty}
-use Rattle.snapshot_stamps.specs.Watched.{last_stamp}
+use Rattle.a1_base.specs.declared.limits.TheConstants.{LAST_STAMP}
 
 -- how often x stands in the list
 abbrev pub times : ℕ → List ℕ → ℕ
@@ -16,13 +16,13 @@ abbrev pub once_between : ℕ → ℕ → ℕ → ℕ
 once_between low high x = cond (nat_lt low x) (cond (nat_lt high x) 0 1) 0
 
 -- what the rule says of one seat
-pub record Fits (from clock : ℕ) (v : Watch) : Type 0 where
+pub record WatchFits (from clock : ℕ) (v : Watch) : Type 0 where
   pub known : v.known ≤ clock
-  pub within : v.known ≤ last_stamp
+  pub within : v.known ≤ LAST_STAMP
   pub floor : v.floor ≤ from
   -- a lane by whose seat an addition was made at the last stamp or above knows the last stamp
   pub over_lanes : v.over ≤ length v.lanes
-  pub over_known : 0 < v.over → v.known ≡ last_stamp
+  pub over_known : 0 < v.over → v.known ≡ LAST_STAMP
   -- without a lane there are no additions
   pub no_lane : v.lanes ≡ [] → (v.additions ≡ 0) × (v.drawn ≡ [])
   -- no lane is marked, and none is looked at
@@ -34,10 +34,10 @@ pub record Clock (lanes from : ℕ) (s : State (Unit {0}) Watch) : Type 0 where
   pub clock : ℕ
   pub words : s.words ≡ clock ∷ []
   pub counted : from + sum_by (λ (v : Watch). v.additions) s.views ≡ clock
-  pub begun : from ≤ last_stamp
-  pub drawn : (x : ℕ) → sum_by (λ (v : Watch). times x v.drawn) s.views ≡ once_between from (min clock last_stamp) x
+  pub begun : from ≤ LAST_STAMP
+  pub drawn : (x : ℕ) → sum_by (λ (v : Watch). times x v.drawn) s.views ≡ once_between from (min clock LAST_STAMP) x
   pub few : lanes < 2 ^ 32
   pub lanes_out : sum_by (λ (v : Watch). length v.lanes) s.views ≡ lanes
   pub laned : (x : ℕ) → sum_by (λ (v : Watch). times x v.lanes) s.views ≡ once_between 0 lanes x
-  pub bounded : clock ≤ last_stamp + sum_by (λ (v : Watch). v.over) s.views
-  pub fits : (i : ℕ) (v : Watch) → get_elem? s.views i ≡ some v → Fits from clock v
+  pub bounded : clock ≤ LAST_STAMP + sum_by (λ (v : Watch). v.over) s.views
+  pub fits : (i : ℕ) (v : Watch) → get_elem? s.views i ≡ some v → WatchFits from clock v

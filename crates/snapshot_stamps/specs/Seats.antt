@@ -4,7 +4,8 @@ use Rattle.snapshot_stamps.specs.declared.watch.Watch.{Watch}
 use Rattle.snapshot_stamps.specs.declared.seat.Stamps.{Stamps}
 use Rattle.snapshot_stamps.specs.declared.seat.StampSeat.{StampSeat}
 use Rattle.snapshot_stamps.specs.declared.seat.Note.{Note}
-use Rattle.snapshot_stamps.specs.Watched.{last_stamp, newcomer, lanes_from}
+use Rattle.snapshot_stamps.specs.Watched.{newcomer, lanes_from}
+use Rattle.a1_base.specs.declared.limits.TheConstants.{LAST_STAMP}
 use Rattle.snapshot_stamps.specs.Clock.{times, once_between}
 
 -- how many lanes the clock has, and where it began
@@ -37,8 +38,8 @@ HaveAllLanes stamps seats = All (IsSeatOf stamps) seats × (sum_by (λ (s : Stam
 
 -- The answer at the end: where the clock began plus all additions of these seats, at most the last stamp. It is at least what each
 -- knew, and each stamp above the beginning and at most the answer was drawn by one of these seats, once, and no other stamp was
-abbrev pub Ended : Stamps → List StampSeat → ℕ → Type 0
-Ended stamps seats answer =
-    (answer ≡ min (began_at stamps + sum_by (λ (s : StampSeat). (watch s).additions) seats) last_stamp)
+abbrev pub ClockCloses : Stamps → List StampSeat → ℕ → Type 0
+ClockCloses stamps seats answer =
+    (answer ≡ min (began_at stamps + sum_by (λ (s : StampSeat). (watch s).additions) seats) LAST_STAMP)
     × All (λ (s : StampSeat). (watch s).known ≤ answer) seats
     × ((x : ℕ) → sum_by (λ (s : StampSeat). times x (watch s).drawn) seats ≡ once_between (began_at stamps) answer x)

@@ -1,10 +1,8 @@
 -- What a seat knows of the clock, and what each step makes of it.
 use Rattle.std.specs.Prelude.{◌≡◌, ◌⊎◌, ℕ, zero, suc, ◌+◌, ◌<◌, ◌≤◌, min, max, cond, nat_lt, List, [], ◌∷◌, ◌++◌, Option, Some, None}
+use Rattle.a1_base.specs.declared.limits.TheConstants.{LAST_STAMP}
 use Rattle.snapshot_stamps.specs.declared.watch.Watch.{Watch}
 use Rattle.snapshot_stamps.specs.declared.watch.Mark.TheVariants.{Empty}
-
-abbrev pub last_stamp : ℕ
-last_stamp = 4611686018427387903
 
 -- the numbers of so many lanes, from that one on
 abbrev pub lanes_from : ℕ → ℕ → List ℕ
@@ -49,27 +47,27 @@ Learned v w = (v.known ≤ w.known) × (w ≡ knowing w.known v)
 
 -- the clock was seen at n: the lesser of it and the last stamp is known now
 abbrev pub Sees : ℕ → Watch → Watch → Type 0
-Sees n v w = (v.known ≤ n) × (w ≡ knowing (min n last_stamp) v)
+Sees n v w = (v.known ≤ n) × (w ≡ knowing (min n LAST_STAMP) v)
 
 -- the stamp is known now, as the last that was drawn
 abbrev pub having_drawn : ℕ → Watch → Watch
 having_drawn w v = record v { known = w; drawn = v.drawn ++ w ∷ []; additions = v.additions + 1 }
 
 -- one was added to the clock, which stood at n: the new stamp is drawn and known, or the last stamp was passed
-abbrev pub Adds : ℕ → Watch → Watch → Type 0
-Adds n v w =
+abbrev pub AddsOne : ℕ → Watch → Watch → Type 0
+AddsOne n v w =
     (v.known ≤ n)
-    × (n < last_stamp → w ≡ having_drawn (n + 1) v)
-    × (last_stamp ≤ n → w ≡ record v { known = last_stamp; additions = v.additions + 1; over = v.over + 1 })
+    × (n < LAST_STAMP → w ≡ having_drawn (n + 1) v)
+    × (LAST_STAMP ≤ n → w ≡ record v { known = LAST_STAMP; additions = v.additions + 1; over = v.over + 1 })
 
 -- what a draw answers where the clock was seen at n
 abbrev pub drawn_at : ℕ → Option ℕ
-drawn_at n = cond (nat_lt n last_stamp) (Some (n + 1)) None
+drawn_at n = cond (nat_lt n LAST_STAMP) (Some (n + 1)) None
 
 -- A draw: the clock is seen, and then one is added. Nothing is drawn exactly where the clock that was seen stands at the
 -- last stamp or above, or is raised above it
-abbrev pub Draws : Watch → Option ℕ → Watch → Type 0
-Draws v answer w =
+abbrev pub DrawsStamp : Watch → Option ℕ → Watch → Type 0
+DrawsStamp v answer w =
     (seen : ℕ) × (between : Watch) × Sees seen v between
-    × (((last_stamp ≤ seen) × (answer ≡ None) × (w ≡ between))
-    ⊎ ((seen < last_stamp) × ((n : ℕ) × Adds n between w × (answer ≡ drawn_at n))))
+    × (((LAST_STAMP ≤ seen) × (answer ≡ None) × (w ≡ between))
+    ⊎ ((seen < LAST_STAMP) × ((n : ℕ) × AddsOne n between w × (answer ≡ drawn_at n))))

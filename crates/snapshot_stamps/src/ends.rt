@@ -1,13 +1,13 @@
 //! How a clock is made, and how it ends.
 ghost use Rattle.std.specs.Prelude.{◌≡◌, ◌<◌, ◌≤◌, [], ◌∷◌, length, IfOk};
-ghost use Rattle.snapshot_stamps.specs.Watched.{last_stamp, lanes_from, newcomer, first_lane, other_lanes, joined, Learned};
-ghost use Rattle.snapshot_stamps.specs.Seats.{lane_count, began_at, watch, IsSeatOf, AreSeatsOf, HaveAllLanes, Ended};
+ghost use Rattle.snapshot_stamps.specs.Watched.{lanes_from, newcomer, first_lane, other_lanes, joined, Learned};
+ghost use Rattle.snapshot_stamps.specs.Seats.{lane_count, began_at, watch, IsSeatOf, AreSeatsOf, HaveAllLanes, ClockCloses};
 
 use crate::rule::{LaneCut, Opened, SeatsJoined};
 use crate::seat::{StampSeat, Stamps};
-use crate::stamps::{CLOCK, LAST_STAMP};
+use crate::stamps::CLOCK;
 use crate::watch::Watch;
-use a1_base::Memory;
+use a1_base::{LAST_STAMP, Memory};
 use atomic_table::{Seat, Table};
 use std::alloc::Global;
 
@@ -18,7 +18,7 @@ impl Stamps {
     /// call takes memory.
     pub fn new(alloc: Global, lanes: u32, from: u64) -> Result<(Stamps, Vec<StampSeat>), Memory>
         requires lanes { 0 < lanes }
-        requires from { (0 < from) × (from ≤ last_stamp) }
+        requires from { (0 < from) × (from ≤ LAST_STAMP) }
         ensures clock { IfOk result (λ r. (lane_count r.0 ≡ lanes) × (began_at r.0 ≡ from)) }
         ensures seats { IfOk result (λ r. AreSeatsOf r.0 r.1.items) }
         ensures lanes { IfOk result (λ r. HaveAllLanes r.0 r.1.items) }
@@ -90,7 +90,7 @@ impl Stamps {
     /// stamp that a seat knew. It waits for nothing, and takes no memory.
     pub fn close(self, mut seats: Vec<StampSeat>) -> u64
         requires { HaveAllLanes self seats.items }
-        ensures { Ended self seats.items result }
+        ensures { ClockCloses self seats.items result }
     {
         let Some(mut whole) = seats.pop() else {
             unreachable!()
@@ -104,7 +104,7 @@ impl Stamps {
     /// Ends the clock with the one seat of all its lanes, as `close` does.
     pub fn close_with(self, seat: StampSeat) -> u64
         requires { HaveAllLanes self (seat ∷ []) }
-        ensures { Ended self (seat ∷ []) result }
+        ensures { ClockCloses self (seat ∷ []) result }
     {
         let Stamps { table } = self;
         let StampSeat { seat, draws: _ } = seat;

@@ -1,27 +1,25 @@
 //! What a seat does at the clock.
 ghost use Rattle.std.specs.Prelude.{◌≡◌, ℕ, ◌<◌, ◌≤◌, ◌++◌, IfSome, IfNone, length};
 ghost use Rattle.std.specs.Option.{option_to_list};
-ghost use Rattle.snapshot_stamps.specs.Watched.{last_stamp, noted, joined, having_drawn, Learned, Sees, Draws};
-ghost use Rattle.snapshot_stamps.specs.Plays.{Reads, Raises};
+ghost use Rattle.snapshot_stamps.specs.Watched.{noted, joined, having_drawn, Learned, Sees, DrawsStamp};
+ghost use Rattle.snapshot_stamps.specs.Plays.{LoadsClock, Raises};
 ghost use Rattle.snapshot_stamps.specs.Seats.{watch, noted_watch, IsSeatOf, IsNoteOf};
 
 use crate::rule::{ClockRaised, ClockRead, NoteCut, SeatsJoined};
 use crate::seat::{Note, StampSeat, Stamps};
 use crate::watch::Watch;
-use a1_base::STAMP_LIMIT;
+use a1_base::LAST_STAMP;
 use atomic_table::Seat;
 use crossbeam_utils::Backoff;
 use std::sync::Wait;
 
 pub(crate) const CLOCK: usize = 0;
 
-pub(crate) const LAST_STAMP: u64 = STAMP_LIMIT - 1;
-
 impl Stamps {
     pub(crate) fn load(&self, seat: &mut Seat<(), Watch>) -> u64
         requires { seat.old.table_id ≡ self.now.table.shared.table_id }
         ensures same { (seat.new.table_id ≡ seat.old.table_id) × (seat.new.me.1 ≡ seat.old.me.1) }
-        ensures reads { Reads result seat.old.me.0 seat.new.me.0 }
+        ensures reads { LoadsClock result seat.old.me.0 seat.new.me.0 }
     {
         self.table.shared.load::<ClockRead>(seat, CLOCK)
     }
@@ -29,7 +27,7 @@ impl Stamps {
     fn add(&self, seat: &mut Seat<(), Watch>) -> u64
         requires table { seat.old.table_id ≡ self.now.table.shared.table_id }
         requires lane { 0 < length seat.old.me.0.lanes }
-        requires stamp { seat.old.me.0.known < last_stamp }
+        requires stamp { seat.old.me.0.known < LAST_STAMP }
         ensures same { (seat.new.table_id ≡ seat.old.table_id) × (seat.new.me.1 ≡ seat.old.me.1) }
         ensures raises { Raises result seat.old.me.0 seat.new.me.0 }
     {
@@ -38,7 +36,7 @@ impl Stamps {
 
     fn raise(&self, seat: &mut StampSeat) -> u64
         requires seat { IsSeatOf self.now seat.old }
-        requires stamp { (watch seat.old).known < last_stamp }
+        requires stamp { (watch seat.old).known < LAST_STAMP }
         ensures seat { IsSeatOf self.now seat.new }
         ensures raises { Raises result (watch seat.old) (watch seat.new) }
     {
@@ -56,7 +54,7 @@ impl Stamps {
         ensures seat { IsSeatOf self.now seat.new }
         ensures clock { (n : ℕ) × Sees n (watch seat.old) (watch seat.new) × (result ≡ (watch seat.new).known) }
         ensures learned { Learned (watch seat.old) (watch seat.new) }
-        ensures known { ((watch seat.old).known ≤ result) × (result ≤ last_stamp) }
+        ensures known { ((watch seat.old).known ≤ result) × (result ≤ LAST_STAMP) }
     {
         self.load(&mut seat.seat).min(LAST_STAMP)
     }
@@ -66,7 +64,7 @@ impl Stamps {
     /// This call alone may wait: for other seats to draw, for ever if none does. It takes no memory.
     pub fn reach<R: Wait>(&self, rt: &R, seat: &mut StampSeat, m: u64)
         requires seat { IsSeatOf self.now seat.old }
-        requires stamp { m ≤ last_stamp }
+        requires stamp { m ≤ LAST_STAMP }
         ensures seat { IsSeatOf self.now seat.new }
         ensures learned { Learned (watch seat.old) (watch seat.new) }
         ensures reached { m ≤ (watch seat.new).known }
@@ -89,11 +87,11 @@ impl Stamps {
     pub fn draw(&self, seat: &mut StampSeat) -> Option<u64>
         requires { IsSeatOf self.now seat.old }
         ensures seat { IsSeatOf self.now seat.new }
-        ensures some { IfSome result (λ w. ((watch seat.old).known < w) × (w ≤ last_stamp) × (watch seat.new ≡ having_drawn w (watch seat.old))) }
-        ensures none { IfNone result ((watch seat.new).known ≡ last_stamp) }
+        ensures some { IfSome result (λ w. ((watch seat.old).known < w) × (w ≤ LAST_STAMP) × (watch seat.new ≡ having_drawn w (watch seat.old))) }
+        ensures none { IfNone result ((watch seat.new).known ≡ LAST_STAMP) }
         ensures drawn { (watch seat.new).drawn ≡ (watch seat.old).drawn ++ option_to_list result }
         ensures lanes { (watch seat.new).lanes ≡ (watch seat.old).lanes }
-        ensures steps { Draws (watch seat.old) result (watch seat.new) }
+        ensures steps { DrawsStamp (watch seat.old) result (watch seat.new) }
     {
         if self.now(seat) >= LAST_STAMP {
             return None;

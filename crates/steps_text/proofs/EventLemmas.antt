@@ -9,6 +9,7 @@ use Rattle.std.proofs.lemmas.Bool.{and_parts}
 use Rattle.std.proofs.lemmas.Str.{IsUtf8-from_ascii}
 use Rattle.std.proofs.lemmas.Str.Ascii.{IsAscii-nil, IsAscii-cons}
 use Rattle.std.proofs.lemmas.Fmt.{IsAscii-decimal}
+use Rattle.a1_base.specs.declared.limits.TheConstants.{REGION_WIDTH}
 use Rattle.hex.specs.Hex.{encode_lower, encode_with, lower_digits}
 use Rattle.a1_base.specs.declared.place.Addr.{Addr}
 use Rattle.a1_base.specs.declared.place.TxnId.{TxnId}
@@ -124,7 +125,7 @@ plain_txn t v = plain_joined 46 (decimal t.actor) (decimal t.number) (λ e. omeg
 plain_addr : (nodes : ℕ) (a : Addr) → IsPlace nodes a → Plain (addr_text a)
 unfolding width
 plain_addr nodes a v =
-    let small : a.offset < 4096 = v.0.1 in
+    let small : a.offset < REGION_WIDTH = v.0.1 in
     plain_joined 58 (decimal a.region) (decimal a.offset) (λ e. omega arith, omega arith) (plain_decimal a.region (omega arith)) (plain_decimal a.offset (omega arith))
 
 plain_new : (new : Option (List ℕ)) → Plain (new_text new)

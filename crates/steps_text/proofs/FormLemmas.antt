@@ -4,6 +4,7 @@ use Rattle.std.specs.Prelude.{decimal, codes, false}
 use Rattle.std.specs.Str.{bytes_eq}
 use Rattle.std.proofs.lemmas.Bool.{false≢true}
 use Rattle.std.proofs.lemmas.Slice.Eq.{bytes_eq-Decides}
+use Rattle.a1_base.specs.declared.limits.TheConstants.{REGION_WIDTH}
 use Rattle.hex.specs.Hex.{encode_lower}
 use Rattle.a1_base.specs.declared.place.Addr.{Addr}
 use Rattle.a1_base.specs.declared.place.TxnId.{TxnId}
@@ -38,7 +39,7 @@ txn_clean t v =
 
 pub offset_small : (nodes : ℕ) (a : Addr) → IsPlace nodes a → a.offset < 2 ^ 64
 unfolding width
-offset_small nodes a v = let h : a.offset < 4096 = v.0.1 in omega arith
+offset_small nodes a v = let h : a.offset < REGION_WIDTH = v.0.1 in omega arith
 
 pub addr_clean : (nodes : ℕ) → Clean addr_text (IsPlace nodes)
 addr_clean nodes a v =

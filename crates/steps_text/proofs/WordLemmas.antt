@@ -9,6 +9,7 @@ use Rattle.std.proofs.lemmas.Str.Pattern.{IsSplitOnceResult, split_parts}
 use Rattle.std.proofs.lemmas.Str.Parse.{IsNumeralModel, numerals_by_value, tells_digits, parse_plain, not_in_digits}
 use Rattle.std.proofs.lemmas.Fmt.{decimal_is_IsNumeral, parse-decimal, decimal-digits_value, decimal_digit, first_decimal, decimal_injective}
 use Rattle.std.proofs.lemmas.Bool.{cases_eq}
+use Rattle.a1_base.specs.declared.limits.TheConstants.{ACTOR_LIMIT, REGION_LIMIT, REGION_WIDTH}
 use Rattle.a1_base.specs.declared.place.Addr.{Addr}
 use Rattle.a1_base.specs.declared.place.TxnId.{TxnId}
 use Rattle.object_region.specs.Occupancy.{region_count, width}
@@ -114,19 +115,19 @@ above_limit limit n word small above same = other_number (λ n. (n < limit) × (
 pub above_type : (limit n : ℕ) (word : List ℕ) → n < 2 ^ 64 → 2 ^ 32 ≤ n → decimal n ≡ word → Refuses decimal (λ n. (n < limit) × (n < 2 ^ 32)) word
 above_type limit n word small above same = other_number (λ n. (n < limit) × (n < 2 ^ 32)) n word small (λ m v. omega arith) (λ v. omega arith) same
 
-pub no_actor : (n : ℕ) (word : List ℕ) → n ≤ 0 → decimal n ≡ word → Refuses decimal (λ n. (0 < n) × (n ≤ 35)) word
-no_actor n word zero_number same = other_number (λ n. (0 < n) × (n ≤ 35)) n word (omega arith) (λ m v. omega arith) (λ v. omega arith) same
+pub no_actor : (n : ℕ) (word : List ℕ) → n ≤ 0 → decimal n ≡ word → Refuses decimal (λ n. (0 < n) × (n ≤ ACTOR_LIMIT)) word
+no_actor n word zero_number same = other_number (λ n. (0 < n) × (n ≤ ACTOR_LIMIT)) n word (omega arith) (λ m v. omega arith) (λ v. omega arith) same
 
 -- ---- transactions
 
 pub txn_uncut : (word : List ℕ) → Lacks 46 word → Refuses txn_text IsTxn word
 txn_uncut word h = refused_uncut 46 (λ (t : TxnId). decimal t.actor) (λ t. decimal t.number) IsTxn word h
 
-pub actor_clean : (n : ℕ) → (0 < n) × (n ≤ 35) → Lacks 46 (decimal n)
+pub actor_clean : (n : ℕ) → (0 < n) × (n ≤ ACTOR_LIMIT) → Lacks 46 (decimal n)
 actor_clean n h = decimal_lacks 46 n (λ r. omega arith) (omega arith)
 
-pub txn_actor : (word a b : List ℕ) → IsCut 46 word a b → Refuses decimal (λ n. (0 < n) × (n ≤ 35)) a → Refuses txn_text IsTxn word
-txn_actor word a b cut h = refused_front 46 decimal (λ t. t.actor) (λ t. decimal t.number) (λ n. (0 < n) × (n ≤ 35)) IsTxn word a b actor_clean (λ t v. v.0) cut h
+pub txn_actor : (word a b : List ℕ) → IsCut 46 word a b → Refuses decimal (λ n. (0 < n) × (n ≤ ACTOR_LIMIT)) a → Refuses txn_text IsTxn word
+txn_actor word a b cut h = refused_front 46 decimal (λ t. t.actor) (λ t. decimal t.number) (λ n. (0 < n) × (n ≤ ACTOR_LIMIT)) IsTxn word a b actor_clean (λ t v. v.0) cut h
 
 pub txn_number : (word a b : List ℕ) → IsCut 46 word a b → Refuses decimal (λ n. n < 2 ^ 64) b → Refuses txn_text IsTxn word
 txn_number word a b cut h = refused_back 46 (λ t. decimal t.actor) (λ t. t.number) decimal (λ n. n < 2 ^ 64) IsTxn word a b (λ t v. actor_clean t.actor v.0) (λ t v. v.1) cut h
@@ -139,20 +140,20 @@ region_clean a h = decimal_lacks 58 a.region (λ r. omega arith) (omega arith)
 pub addr_uncut : (nodes : ℕ) (word : List ℕ) → Lacks 58 word → Refuses addr_text (IsPlace nodes) word
 addr_uncut nodes word h = refused_uncut 58 (λ a. decimal a.region) (λ a. decimal a.offset) (IsPlace nodes) word h
 
-pub addr_region : (nodes limit : ℕ) (word a b : List ℕ) → limit ≡ 1048576 * nodes → IsCut 58 word a b → Refuses decimal (λ n. (n < limit) × (n < 2 ^ 32)) a → Refuses addr_text (IsPlace nodes) word
+pub addr_region : (nodes limit : ℕ) (word a b : List ℕ) → limit ≡ REGION_LIMIT * nodes → IsCut 58 word a b → Refuses decimal (λ n. (n < limit) × (n < 2 ^ 32)) a → Refuses addr_text (IsPlace nodes) word
 unfolding region_count
 addr_region nodes limit word a b e cut h =
     refused_front 58 decimal (λ p. p.region) (λ p. decimal p.offset) (λ n. (n < limit) × (n < 2 ^ 32)) (IsPlace nodes) word a b
     (λ n v. decimal_lacks 58 n (λ r. omega arith) (omega arith)) (λ p v. (omega arith, v.1)) cut h
 
-pub addr_offset : (nodes : ℕ) (word a b : List ℕ) → IsCut 58 word a b → Refuses decimal (λ n. (n < 4096) × (n < 2 ^ 32)) b → Refuses addr_text (IsPlace nodes) word
+pub addr_offset : (nodes : ℕ) (word a b : List ℕ) → IsCut 58 word a b → Refuses decimal (λ n. (n < REGION_WIDTH) × (n < 2 ^ 32)) b → Refuses addr_text (IsPlace nodes) word
 unfolding width
 addr_offset nodes word a b cut h =
-    refused_back 58 (λ p. decimal p.region) (λ p. p.offset) decimal (λ n. (n < 4096) × (n < 2 ^ 32)) (IsPlace nodes) word a b
-    (λ p v. region_clean p v.1) (λ p v. (v.0.1, let h : p.offset < 4096 = v.0.1 in omega arith)) cut h
+    refused_back 58 (λ p. decimal p.region) (λ p. p.offset) decimal (λ n. (n < REGION_WIDTH) × (n < 2 ^ 32)) (IsPlace nodes) word a b
+    (λ p v. region_clean p v.1) (λ p v. (v.0.1, let h : p.offset < REGION_WIDTH = v.0.1 in omega arith)) cut h
 
-pub addr_read : (nodes limit region offset : ℕ) (word a b : List ℕ) → limit ≡ 1048576 * nodes → IsCut 58 word a b
-    → (decimal region ≡ a) × ((region < limit) × (region < 2 ^ 32)) → (decimal offset ≡ b) × ((offset < 4096) × (offset < 2 ^ 32))
+pub addr_read : (nodes limit region offset : ℕ) (word a b : List ℕ) → limit ≡ REGION_LIMIT * nodes → IsCut 58 word a b
+    → (decimal region ≡ a) × ((region < limit) × (region < 2 ^ 32)) → (decimal offset ≡ b) × ((offset < REGION_WIDTH) × (offset < 2 ^ 32))
     → let at : Addr = record { region = region; offset = offset } in (addr_text at ≡ word) × IsPlace nodes at
 unfolding region_count width
 addr_read nodes limit region offset word a b e cut r o = (rw (r.0, o.0) (sym cut.whole), ((omega arith, o.1.0), r.1.1))

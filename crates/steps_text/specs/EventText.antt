@@ -1,6 +1,7 @@
 -- The text of events and of answers: a line of words for each.
 use Rattle.std.specs.Prelude.{◌≡◌, ℕ, ◌+◌, ◌^◌, ◌<◌, ◌≤◌, ◌⊎◌, List, [], ◌∷◌, ◌++◌, length, codes, decimal, Option, Some, None, ⊤}
 use Rattle.std.specs.List.{join_with_byte, flat_map, AllByRecursion}
+use Rattle.a1_base.specs.declared.limits.TheConstants.{SCRIPT_LIMIT}
 use Rattle.hex.specs.Hex.{encode_lower, IsBytes}
 use Rattle.a1_base.specs.declared.place.Addr.{Addr}
 use Rattle.a1_base.specs.declared.place.TxnId.{TxnId}
@@ -60,28 +61,24 @@ FitsNew None = ⊤
 FitsNew (Some bytes) = IsBytes bytes
 
 -- the numbers and the bytes lie within their types
-abbrev pub Fits : Event → Type 0
-Fits (Load a bytes) = FitsAddr a × IsBytes bytes
-Fits (Begin t) = FitsTxn t
-Fits (Read t a) = FitsTxn t × FitsAddr a
-Fits (Alloc t n bytes) = FitsTxn t × FitsNode n × IsBytes bytes
-Fits (Lock t a new) = FitsTxn t × FitsAddr a × FitsNew new
-Fits (Draw t) = FitsTxn t
-Fits (Check t a) = FitsTxn t × FitsAddr a
-Fits (Put t a) = FitsTxn t × FitsAddr a
-Fits (Unlock t a) = FitsTxn t × FitsAddr a
-Fits (Shut t) = FitsTxn t
-Fits (Collect n) = FitsNode n
+abbrev pub EventFits : Event → Type 0
+EventFits (Load a bytes) = FitsAddr a × IsBytes bytes
+EventFits (Begin t) = FitsTxn t
+EventFits (Read t a) = FitsTxn t × FitsAddr a
+EventFits (Alloc t n bytes) = FitsTxn t × FitsNode n × IsBytes bytes
+EventFits (Lock t a new) = FitsTxn t × FitsAddr a × FitsNew new
+EventFits (Draw t) = FitsTxn t
+EventFits (Check t a) = FitsTxn t × FitsAddr a
+EventFits (Put t a) = FitsTxn t × FitsAddr a
+EventFits (Unlock t a) = FitsTxn t × FitsAddr a
+EventFits (Shut t) = FitsTxn t
+EventFits (Collect n) = FitsNode n
 
 -- an event of a farm of so many nodes
 abbrev pub IsEvent : ℕ → Event → Type 0
-IsEvent nodes e = InRange nodes e × Fits e
+IsEvent nodes e = InRange nodes e × EventFits e
 
 -- ---- a text of events
-
--- the most bytes of a text
-abbrev pub text_limit : ℕ
-text_limit = 33554432
 
 -- an event's text and LF
 abbrev pub line_text : Event → List ℕ
@@ -89,7 +86,7 @@ line_text e = event_text e ++ 10 ∷ []
 
 -- the text is the lines of these events
 pub record IsTextOf (nodes : ℕ) (text : List ℕ) (events : List Event) : Type 0 where
-  pub short : length text ≤ text_limit
+  pub short : length text ≤ SCRIPT_LIMIT
   pub each : AllByRecursion (IsEvent nodes) events
   pub lines : text ≡ flat_map line_text events
 
@@ -106,7 +103,7 @@ pub record BreaksAfter (nodes : ℕ) (text : List ℕ) (events : List Event) (re
 
 -- line n, counted from 1, is the first that is no event's
 pub record IsFirstBroken (nodes : ℕ) (text : List ℕ) (n : ℕ) : Type 0 where
-  pub short : length text ≤ text_limit
+  pub short : length text ≤ SCRIPT_LIMIT
   pub events : List Event
   pub rest : List ℕ
   pub number : n ≡ length events + 1
@@ -114,7 +111,7 @@ pub record IsFirstBroken (nodes : ℕ) (text : List ℕ) (n : ℕ) : Type 0 wher
 
 -- the fault of a text: it is too long, or this is its first line that is no event's
 abbrev pub IsFaultOf : ℕ → List ℕ → TextFault → Type 0
-IsFaultOf nodes text (Line n) = ((text_limit < length text) × (n ≡ 0)) ⊎ IsFirstBroken nodes text n
+IsFaultOf nodes text (Line n) = ((SCRIPT_LIMIT < length text) × (n ≡ 0)) ⊎ IsFirstBroken nodes text n
 IsFaultOf nodes text Memory = ⊤
 
 -- ---- an answer

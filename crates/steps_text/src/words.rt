@@ -7,12 +7,9 @@ ghost use Rattle.steps_text.specs.EventText.{txn_text, addr_text, new_text};
 ghost use Rattle.steps_text.specs.Reading.{Lacks, IsCut, Parses, ParsesOrFails, IsTxn, IsPlace, IsContent, IsNewContent};
 
 use crate::fault::LineFault;
-use a1_base::{Addr, Bin, OBJECT_LIMIT, REGION_LIMIT, TxnId};
+use a1_base::{ACTOR_LIMIT, Addr, Bin, OBJECT_LIMIT, REGION_LIMIT, REGION_WIDTH, TxnId};
 use hex::FromHexError;
 use std::alloc::Global;
-
-// How many places a region has.
-const REGION_WIDTH: u64 = 4_096;
 
 // The texts in front of the first mark and behind it.
 pub fn cut(text: &str, mark: char) -> Option<(&str, &str)>
@@ -49,12 +46,12 @@ pub fn number_below(word: &str, limit: u64) -> Option<u32>
     }
 }
 
-// An actor, 1 to 35.
+// An actor.
 #[tactic(auto, using(crate::proofs::WordLemmas::no_actor))]
 fn actor(word: &str) -> Option<u32>
-    ensures { Parses decimal (λ n. (0 < n) × (n ≤ 35)) word.now result }
+    ensures { Parses decimal (λ n. (0 < n) × (n ≤ ACTOR_LIMIT)) word.now result }
 {
-    let number = number_below(word, 36)?;
+    let number = number_below(word, u64::from(ACTOR_LIMIT) + 1)?;
     if number > 0 { Some(number) } else { None }
 }
 
@@ -76,7 +73,7 @@ pub fn addr(nodes: u32, word: &str) -> Option<Addr>
 {
     let (region_word, offset_word) = cut(word, ':')?;
     let region = number_below(region_word, u64::from(REGION_LIMIT) * u64::from(nodes))?;
-    let offset = number_below(offset_word, REGION_WIDTH)?;
+    let offset = number_below(offset_word, u64::from(REGION_WIDTH))?;
     Some(Addr { region, offset })
 }
 

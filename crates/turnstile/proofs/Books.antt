@@ -1,6 +1,7 @@
 -- Writers and their numbers, for the tests.
 use Rattle.std.proofs.Common.{◌≡◌, ◌≢◌, ℕ, zero, suc, ◌-◌, ◌<◌, ◌≤◌, Bool, cond, List, [], ◌∷◌, ◌++◌, sym, refl, ap, ◌∙◌, subst, inl, inr, arith, eq-eqb, ne_eqb}
-use Rattle.turnstile.specs.Entries.{IsAmong, without, up_to, entries_of, HasAll}
+use Rattle.turnstile.specs.Entries.{without, up_to, HasAll}
+use Rattle.a1_base.specs.Lists.{IsAmong, entries_of}
 use Rattle.turnstile.specs.Book.{Mark, writer, HaveWritten, HasEach, marks}
 use mathlib.Core.Logic.{dite}
 use native.Mathlib.Decide.{dec_le}

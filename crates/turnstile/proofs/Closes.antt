@@ -10,8 +10,9 @@ use Rattle.atomic_table.specs.Table.{State, Final, Seen}
 use Rattle.turnstile.specs.declared.view.View.{View}
 use Rattle.turnstile.specs.declared.view.Stage.{Stage}
 use Rattle.turnstile.specs.declared.view.Stage.TheVariants.{Idle, Inside}
-use Rattle.turnstile.specs.Turns.{HasTicket, Ended, Kept}
-use Rattle.turnstile.specs.Entries.{HasAll, entries_of}
+use Rattle.turnstile.specs.Turns.{HasTicket, ClosesWith, Kept}
+use Rattle.turnstile.specs.Entries.{HasAll}
+use Rattle.a1_base.specs.Lists.{entries_of}
 use Rattle.turnstile.proofs.Histories.{has_first, of_append}
 
 nothing_first : {E : Type 0} (xs ys : List E) → xs ++ ys ≡ [] → xs ≡ []
@@ -37,7 +38,7 @@ module _ {T E : Type 0} (stands : T → List E → Type 0) (number : E → ℕ) 
       (k.apart i id u v other e at).numbers x.0 x.1 (all x.0 r.0 r.1))
 
   pub closes : (id : ℕ) (v : View E) (ws : List ℕ) (xs : List (Option T)) → v.stage ≡ Idle → HasAll passes v.numbers → Final (Seen K id v) ws xs
-      → (y : T) × (get_elem? xs 0 ≡ some (Some y)) × Ended stands number start y v.seen
+      → (y : T) × (get_elem? xs 0 ≡ some (Some y)) × ClosesWith stands number start y v.seen
   closes id v ws xs idle all end =
       let s = end.0 in let k = end.1.0 in let at = end.1.1 in let mine = k.fits id v at in
       ⊎_elim
@@ -62,10 +63,10 @@ module _ {T E : Type 0} (stands : T → List E → Type 0) (number : E → ℕ) 
 
   -- what was taken out at the end
   pub closes_with : (id : ℕ) (v : View E) (ws : List ℕ) (xs : List (Option T)) (x : Option T) → v.stage ≡ Idle → HasAll passes v.numbers → Final (Seen K id v) ws xs → get_elem? xs 0 ≡ some x
-      → (y : T) × (x ≡ Some y) × Ended stands number start y v.seen
+      → (y : T) × (x ≡ Some y) × ClosesWith stands number start y v.seen
   closes_with id v ws xs x idle all end at =
       let r = closes id v ws xs idle all end in
       (r.0, some-injective x (Some r.0) (sym at ∙ r.1), r.2)
 
-  pub closes_at : (x : Option T) (y z : T) (seen : List E) → x ≡ Some y → x ≡ Some z → Ended stands number start y seen → Ended stands number start z seen
-  closes_at x y z seen p q h = let same : y ≡ z = (let e : Some y ≡ Some z = sym p ∙ q in cc) in subst (λ (u : T). Ended stands number start u seen) same h
+  pub closes_at : (x : Option T) (y z : T) (seen : List E) → x ≡ Some y → x ≡ Some z → ClosesWith stands number start y seen → ClosesWith stands number start z seen
+  closes_at x y z seen p q h = let same : y ≡ z = (let e : Some y ≡ Some z = sym p ∙ q in cc) in subst (λ (u : T). ClosesWith stands number start u seen) same h

@@ -8,8 +8,9 @@ use Rattle.atomic_table.specs.Table.{State, Me, keeps, Allows}
 use Rattle.turnstile.specs.declared.view.View.{View}
 use Rattle.turnstile.specs.declared.view.Stage.{Stage}
 use Rattle.turnstile.specs.declared.view.Stage.TheVariants.{Inside}
-use Rattle.turnstile.specs.Turns.{word_of, HasTicket, tickets, Fits, Kept, having_added}
-use Rattle.turnstile.specs.Entries.{IsAmong, AllOf, Begins, entries_of}
+use Rattle.turnstile.specs.Turns.{word_of, HasTicket, tickets, ViewFits, Kept, having_added}
+use Rattle.turnstile.specs.Entries.{AllOf}
+use Rattle.a1_base.specs.Lists.{IsAmong, BeginsWith, entries_of}
 use Rattle.turnstile.proofs.Lists.{each_set, apart_set, here_set}
 use Rattle.turnstile.proofs.Histories.{begins_none, of_more, begins_itself, begins_more}
 
@@ -60,7 +61,7 @@ module _ {T E : Type 0} (stands : T → List E → Type 0) (number : E → ℕ) 
           begins = begins_more k.log (start ∷ []) new k.begins;
           zeros = of_more number 0 v.numbers k.log new all (λ (h : IsAmong 0 v.numbers). let p = (mine.range 0 h).0 in omega arith) ∙ k.zeros;
           no_more = λ j over. of_more number j v.numbers k.log new all (λ (h : IsAmong j v.numbers). let p = (mine.range j h).1 in omega arith) ∙ k.no_more j over;
-          fits = each_set (Fits number passes (k.log ++ new) k.drawn k.served) s.views id w
+          fits = each_set (ViewFits number passes (k.log ++ new) k.drawn k.served) s.views id w
               (λ j u ne e. let o = k.fits j u e in let a = k.apart j id u v ne e at in record {
                 seen = begins_more k.log u.seen new o.seen;
                 heard = o.heard;
@@ -71,7 +72,7 @@ module _ {T E : Type 0} (stands : T → List E → Type 0) (number : E → ℕ) 
                 inside = λ m is. absurd (alone_inside s k id n v at inside j u ne e m is);
               })
               record {
-                seen = subst (λ (z : List E). Begins (k.log ++ new) z) grown (begins_itself (k.log ++ new));
+                seen = subst (λ (z : List E). BeginsWith (k.log ++ new) z) grown (begins_itself (k.log ++ new));
                 heard = begins_none _;
                 heard_own = λ x h. absurd h;
                 own = λ x h. ap (entries_of number x) grown;

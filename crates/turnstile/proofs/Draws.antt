@@ -5,7 +5,7 @@ use Rattle.atomic_table.specs.Table.{State, Me, keeps, Allows}
 use Rattle.a1_base.proofs.Sums.{sum_set}
 use Rattle.turnstile.specs.declared.view.View.{View}
 use Rattle.turnstile.specs.declared.view.Stage.TheVariants.{Idle, Waits, Inside}
-use Rattle.turnstile.specs.Turns.{word_of, tickets, view, Fits, Kept, Drawn}
+use Rattle.turnstile.specs.Turns.{word_of, tickets, view, ViewFits, Kept, Drawn}
 use Rattle.turnstile.proofs.Histories.{begins_none}
 use Rattle.turnstile.proofs.Lists.{each_set, apart_set, nobody_set, somebody_set}
 
@@ -48,7 +48,7 @@ module _ {T E : Type 0} (stands : T → List E → Type 0) (number : E → ℕ) 
           begins = k.begins;
           zeros = k.zeros;
           no_more = k.no_more;
-          fits = each_set (Fits number passes k.log (k.drawn + 1) k.served) s.views id w
+          fits = each_set (ViewFits number passes k.log (k.drawn + 1) k.served) s.views id w
               (λ j u ne e. let o = k.fits j u e in record {
                 seen = o.seen;
                 heard = o.heard;

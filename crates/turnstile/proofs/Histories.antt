@@ -3,7 +3,8 @@ use Rattle.std.proofs.Common.{◌≡◌, ◌≢◌, ◌⊎◌, ℕ, zero, suc, �
 use Rattle.std.proofs.lemmas.List.Elements.{filter-append}
 use mathlib.Core.Logic.{dite}
 use native.Mathlib.Decide.{ℕ_discrete}
-use Rattle.turnstile.specs.Entries.{IsAmong, entries_of, Begins, AllOf, without, up_to}
+use Rattle.turnstile.specs.Entries.{AllOf, without, up_to}
+use Rattle.a1_base.specs.Lists.{IsAmong, BeginsWith, entries_of}
 
 module _ {E : Type 0} (number : E → ℕ) where
   pub of_append : (k : ℕ) (xs ys : List E) → entries_of number k (xs ++ ys) ≡ entries_of number k xs ++ entries_of number k ys
@@ -22,13 +23,13 @@ module _ {E : Type 0} (number : E → ℕ) where
   of_more k numbers xs es all not = of_append k xs es ∙ (ap (λ (z : List E). entries_of number k xs ++ z) (of_none k numbers es all not) ∙ append-nil (entries_of number k xs))
 
 module _ {E : Type 0} where
-  pub begins_itself : (log : List E) → Begins log log
+  pub begins_itself : (log : List E) → BeginsWith log log
   begins_itself log = ([], sym (append-nil log))
 
-  pub begins_none : (log : List E) → Begins log []
+  pub begins_none : (log : List E) → BeginsWith log []
   begins_none log = (log, refl)
 
-  pub begins_more : (log seen new : List E) → Begins log seen → Begins (log ++ new) seen
+  pub begins_more : (log seen new : List E) → BeginsWith log seen → BeginsWith (log ++ new) seen
   begins_more log seen new (rest, is) = (rest ++ new, ap (λ (z : List E). z ++ new) is ∙ append_assoc seen rest new)
 
 -- numbers
@@ -97,7 +98,7 @@ module _ {E : Type 0} where
   no_rest (x ∷ xs) ys e = no_rest xs ys (let p : xs ++ ys ≡ xs = cc in p)
 
   -- of two lists that begin one list, the shorter begins the longer
-  pub between : (log a b : List E) → Begins log a → Begins log b → length a ≤ length b → Begins b a
+  pub between : (log a b : List E) → BeginsWith log a → BeginsWith log b → length a ≤ length b → BeginsWith b a
   between log [] b p q le = (b, refl)
   between log (x ∷ a) [] p q le = absurd (omega arith)
   between log (x ∷ a) (y ∷ b) p q le =
@@ -109,7 +110,7 @@ module _ {E : Type 0} where
 
 module _ {E : Type 0} (number : E → ℕ) where
   -- who has seen all entries of a number sees them in each longer list
-  pub of_between : (k : ℕ) (log a b : List E) → Begins log b → Begins b a → entries_of number k log ≡ entries_of number k a → entries_of number k log ≡ entries_of number k b
+  pub of_between : (k : ℕ) (log a b : List E) → BeginsWith log b → BeginsWith b a → entries_of number k log ≡ entries_of number k a → entries_of number k log ≡ entries_of number k b
   of_between k log a b p q is =
       let more : List E = q.0 ++ p.0 in
       let whole : log ≡ a ++ more = p.1 ∙ (ap (λ (z : List E). z ++ p.0) q.1 ∙ append_assoc a q.0 p.0) in

@@ -9,21 +9,22 @@ use Rattle.atomic_table.specs.Table.{State, Joins}
 use Rattle.atomic_table.proofs.Lists.{at_set, set_else}
 use Rattle.turnstile.specs.declared.view.View.{View}
 use Rattle.turnstile.specs.declared.view.Stage.TheVariants.{Idle, Inside}
-use Rattle.turnstile.specs.Turns.{tickets, joined, spent, Fits, Apart, Kept}
-use Rattle.turnstile.specs.Entries.{IsAmong, Begins, entries_of, longer, shorter}
+use Rattle.turnstile.specs.Turns.{tickets, joined, spent, ViewFits, Apart, Kept}
+use Rattle.turnstile.specs.Entries.{longer, shorter}
+use Rattle.a1_base.specs.Lists.{IsAmong, BeginsWith, entries_of}
 use Rattle.turnstile.proofs.Lists.{each_set, apart_set, apart_flip, somebody_set, set_swap}
 use Rattle.turnstile.proofs.Histories.{begins_none, has_either, between, of_between, begins_itself}
 use Rattle.turnstile.proofs.Draws.{not_inside}
 
 module _ {E : Type 0} where
-  joined_heard : (log a b : List E) → Begins log a → Begins log b → Begins (longer a b) (shorter a b)
+  joined_heard : (log a b : List E) → BeginsWith log a → BeginsWith log b → BeginsWith (longer a b) (shorter a b)
   joined_heard log a b p q = by_test (dec_lt (length a) (length b)) where
-    by_test : Dec (length a < length b) → Begins (longer a b) (shorter a b)
-    by_test (yes lt) = subst (λ (t : Bool). Begins (cond t b a) (cond t a b)) (sym (lt-ltb (length a) (length b) lt)) (between log a b p q (omega arith))
+    by_test : Dec (length a < length b) → BeginsWith (longer a b) (shorter a b)
+    by_test (yes lt) = subst (λ (t : Bool). BeginsWith (cond t b a) (cond t a b)) (sym (lt-ltb (length a) (length b) lt)) (between log a b p q (omega arith))
     by_test (no ge) = let le : length b ≤ length a = omega arith in
-        subst (λ (t : Bool). Begins (cond t b a) (cond t a b)) (sym (le-ltb (length a) (length b) le)) (between log b a q p le)
+        subst (λ (t : Bool). BeginsWith (cond t b a) (cond t a b)) (sym (le-ltb (length a) (length b) le)) (between log b a q p le)
 
-  joined_own : (number : E → ℕ) (log : List E) (v w : View E) → Begins log v.seen → Begins log w.seen
+  joined_own : (number : E → ℕ) (log : List E) (v w : View E) → BeginsWith log v.seen → BeginsWith log w.seen
       → ((k : ℕ) → IsAmong k v.numbers → entries_of number k log ≡ entries_of number k v.seen) → ((k : ℕ) → IsAmong k w.numbers → entries_of number k log ≡ entries_of number k w.seen)
       → (k : ℕ) → IsAmong k (joined v w).heard_numbers → entries_of number k (joined v w).seen ≡ entries_of number k (joined v w).heard
   joined_own number log v w p q own own' k = by_test (dec_lt (length v.seen) (length w.seen)) where
@@ -40,13 +41,13 @@ module _ {E : Type 0} where
     by_test (yes lt) = inl (ap (λ (t : Bool). cond t b a) (lt-ltb (length a) (length b) lt), omega arith)
     by_test (no ge) = let le : length b ≤ length a = omega arith in inr (ap (λ (t : Bool). cond t b a) (le-ltb (length a) (length b) le), le)
 
-  pub longer_begins : (log a b : List E) → Begins log a → Begins log b → Begins log (longer a b)
-  longer_begins log a b p q = ⊎_elim (λ t. subst (Begins log) (sym t.0) q) (λ t. subst (Begins log) (sym t.0) p) (by_length a b)
+  pub longer_begins : (log a b : List E) → BeginsWith log a → BeginsWith log b → BeginsWith log (longer a b)
+  longer_begins log a b p q = ⊎_elim (λ t. subst (BeginsWith log) (sym t.0) q) (λ t. subst (BeginsWith log) (sym t.0) p) (by_length a b)
 
-  pub longer_begun : (log a b : List E) → Begins log a → Begins log b → Begins (longer a b) a × Begins (longer a b) b
+  pub longer_begun : (log a b : List E) → BeginsWith log a → BeginsWith log b → BeginsWith (longer a b) a × BeginsWith (longer a b) b
   longer_begun log a b p q = ⊎_elim
-      (λ t. (subst (λ (z : List E). Begins z a) (sym t.0) (between log a b p q t.1), subst (λ (z : List E). Begins z b) (sym t.0) (begins_itself b)))
-      (λ t. (subst (λ (z : List E). Begins z a) (sym t.0) (begins_itself a), subst (λ (z : List E). Begins z b) (sym t.0) (between log b a q p t.1)))
+      (λ t. (subst (λ (z : List E). BeginsWith z a) (sym t.0) (between log a b p q t.1), subst (λ (z : List E). BeginsWith z b) (sym t.0) (begins_itself b)))
+      (λ t. (subst (λ (z : List E). BeginsWith z a) (sym t.0) (begins_itself a), subst (λ (z : List E). BeginsWith z b) (sym t.0) (between log b a q p t.1)))
       (by_length a b)
 
 module _ {T E : Type 0} (stands : T → List E → Type 0) (number : E → ℕ) (passes : ℕ) (start : E) where
@@ -92,8 +93,8 @@ module _ {T E : Type 0} (stands : T → List E → Type 0) (number : E → ℕ) 
         begins = k.begins;
         zeros = k.zeros;
         no_more = k.no_more;
-        fits = each_set (Fits number passes k.log k.drawn k.served) less id both
-            (λ j u ne e. each_set (Fits number passes k.log k.drawn k.served) s.views other spent (λ j u ne e. k.fits j u e)
+        fits = each_set (ViewFits number passes k.log k.drawn k.served) less id both
+            (λ j u ne e. each_set (ViewFits number passes k.log k.drawn k.served) s.views other spent (λ j u ne e. k.fits j u e)
             record {
               seen = (k.log, refl);
               heard = begins_none _;

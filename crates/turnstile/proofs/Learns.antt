@@ -5,7 +5,7 @@ use Rattle.atomic_table.specs.Table.{State, Me, keeps, Allows}
 use Rattle.a1_base.proofs.Sums.{sum_set}
 use Rattle.turnstile.specs.declared.view.View.{View}
 use Rattle.turnstile.specs.declared.view.Stage.TheVariants.{Idle}
-use Rattle.turnstile.specs.Turns.{tickets, view, Fits, Kept, Learned}
+use Rattle.turnstile.specs.Turns.{tickets, view, ViewFits, Kept, Learned}
 use Rattle.turnstile.proofs.Histories.{begins_none}
 use Rattle.turnstile.proofs.Lists.{each_set, apart_set, nobody_set, somebody_set}
 use Rattle.turnstile.proofs.Looks.{same_words}
@@ -40,7 +40,7 @@ module _ {T E : Type 0} (stands : T → List E → Type 0) (number : E → ℕ) 
           begins = k.begins;
           zeros = k.zeros;
           no_more = k.no_more;
-          fits = each_set (Fits number passes k.log k.drawn k.served) s.views id w (λ j u ne e. k.fits j u e)
+          fits = each_set (ViewFits number passes k.log k.drawn k.served) s.views id w (λ j u ne e. k.fits j u e)
               record { seen = mine.seen; heard = begins_none _; heard_own = λ x h. absurd h; own = mine.own; range = mine.range; ticket = mine.ticket; inside = mine.inside };
           apart = apart_set s.views id w k.apart
               (λ j u ne e. let a = k.apart id j v u (λ (z : id ≡ j). ne (sym z)) at e in record { numbers = a.numbers; tickets = a.tickets });

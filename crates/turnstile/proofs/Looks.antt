@@ -12,7 +12,7 @@ use Rattle.atomic_table.proofs.Lists.{set_again, one_turn}
 use Rattle.turnstile.specs.declared.view.View.{View}
 use Rattle.turnstile.specs.declared.view.Stage.{Stage}
 use Rattle.turnstile.specs.declared.view.Stage.TheVariants.{Waits, Inside}
-use Rattle.turnstile.specs.Turns.{word_of, HasTicket, tickets, view, Fits, Kept, LookedAt}
+use Rattle.turnstile.specs.Turns.{word_of, HasTicket, tickets, view, ViewFits, Kept, LookedAt}
 use Rattle.turnstile.proofs.Lists.{each_set, apart_set, tickets_le, here_set}
 use Rattle.turnstile.proofs.Histories.{begins_none, begins_itself}
 
@@ -88,7 +88,7 @@ module _ {T E : Type 0} (stands : T → List E → Type 0) (number : E → ℕ) 
           begins = k.begins;
           zeros = k.zeros;
           no_more = k.no_more;
-          fits = each_set (Fits number passes k.log k.drawn k.served) s.views id w (λ j u ne e. k.fits j u e)
+          fits = each_set (ViewFits number passes k.log k.drawn k.served) s.views id w (λ j u ne e. k.fits j u e)
               record {
                 seen = begins_itself k.log;
                 heard = begins_none _;

@@ -8,7 +8,7 @@ use Rattle.a1_base.proofs.Sums.{sum_set}
 use Rattle.turnstile.specs.declared.view.View.{View}
 use Rattle.turnstile.specs.declared.view.Stage.{Stage}
 use Rattle.turnstile.specs.declared.view.Stage.TheVariants.{Idle, Inside}
-use Rattle.turnstile.specs.Turns.{word_of, HasTicket, tickets, view, Fits, Kept, Gone}
+use Rattle.turnstile.specs.Turns.{word_of, HasTicket, tickets, view, ViewFits, Kept, Gone}
 use Rattle.turnstile.proofs.Lists.{each_set, apart_set}
 use Rattle.turnstile.proofs.Histories.{begins_none}
 use Rattle.turnstile.proofs.Looks.{serving_is}
@@ -49,7 +49,7 @@ module _ {T E : Type 0} (stands : T → List E → Type 0) (number : E → ℕ) 
           begins = k.begins;
           zeros = k.zeros;
           no_more = k.no_more;
-          fits = each_set (Fits number passes k.log k.drawn (k.served + 1)) s.views id w
+          fits = each_set (ViewFits number passes k.log k.drawn (k.served + 1)) s.views id w
               (λ j u ne e. let o = k.fits j u e in let a = k.apart j id u v ne e at in record {
                 seen = o.seen;
                 heard = o.heard;

@@ -6,8 +6,8 @@ use Rattle.atomic_table.proofs.Lists.{at_set, at_longer}
 use Rattle.a1_base.proofs.Sums.{sum_set, sum_more}
 use Rattle.turnstile.specs.declared.view.View.{View}
 use Rattle.turnstile.specs.declared.view.Stage.TheVariants.{Idle, Inside}
-use Rattle.turnstile.specs.Turns.{tickets, first_half, second_half, Fits, Apart, Kept}
-use Rattle.turnstile.specs.Entries.{IsAmong}
+use Rattle.turnstile.specs.Turns.{tickets, first_half, second_half, ViewFits, Apart, Kept}
+use Rattle.a1_base.specs.Lists.{IsAmong}
 use Rattle.turnstile.proofs.Lists.{each_set, each_end, apart_set, apart_end, somebody_set}
 use Rattle.turnstile.proofs.Histories.{begins_none, without_else, without_less}
 use Rattle.turnstile.proofs.Draws.{not_inside}
@@ -43,8 +43,8 @@ module _ {T E : Type 0} (stands : T → List E → Type 0) (number : E → ℕ) 
         begins = k.begins;
         zeros = k.zeros;
         no_more = k.no_more;
-        fits = each_end (Fits number passes k.log k.drawn k.served) views right
-            (each_set (Fits number passes k.log k.drawn k.served) s.views id left (λ j u ne e. k.fits j u e)
+        fits = each_end (ViewFits number passes k.log k.drawn k.served) views right
+            (each_set (ViewFits number passes k.log k.drawn k.served) s.views id left (λ j u ne e. k.fits j u e)
             record {
               seen = mine.seen;
               heard = begins_none _;

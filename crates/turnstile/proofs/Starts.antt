@@ -6,8 +6,8 @@ use Rattle.std.specs.Prelude.{Some}
 use Rattle.atomic_table.specs.Table.{opening}
 use Rattle.turnstile.specs.declared.view.View.{View}
 use Rattle.turnstile.specs.declared.view.Stage.TheVariants.{Inside}
-use Rattle.turnstile.specs.Turns.{newcomer, Fits, Apart, Kept}
-use Rattle.turnstile.specs.Entries.{entries_of}
+use Rattle.turnstile.specs.Turns.{newcomer, ViewFits, Apart, Kept}
+use Rattle.a1_base.specs.Lists.{entries_of}
 use Rattle.turnstile.proofs.Histories.{begins_none, up_to_has, up_to_length, begins_itself}
 
 module _ {T E : Type 0} (stands : T → List E → Type 0) (number : E → ℕ) (passes : ℕ) (start : E) where
@@ -39,7 +39,7 @@ module _ {T E : Type 0} (stands : T → List E → Type 0) (number : E → ℕ) 
     begins = begins_itself (start ∷ []);
     zeros = of_zero is;
     no_more = λ k over. of_start k (λ (e : number start ≡ k). omega arith);
-    fits = alone (Fits number passes (start ∷ []) 0 0) record {
+    fits = alone (ViewFits number passes (start ∷ []) 0 0) record {
       seen = begins_itself (start ∷ []);
       heard = begins_none _;
       heard_own = λ x h. absurd h;

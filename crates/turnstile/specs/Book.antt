@@ -1,6 +1,7 @@
 -- What the book of the tests holds: marks, each with its writer and its place among that writer's marks.
 use Rattle.std.specs.Prelude.{◌≡◌, ℕ, zero, suc, ◌<◌, ◌≤◌, List, [], ◌∷◌, ◌++◌, Option, Some, None}
-use Rattle.turnstile.specs.Entries.{entries_of, IsAmong, up_to}
+use Rattle.turnstile.specs.Entries.{up_to}
+use Rattle.a1_base.specs.Lists.{IsAmong, entries_of}
 
 abbrev pub Mark : Type 0
 Mark = ℕ × ℕ

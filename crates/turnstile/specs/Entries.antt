@@ -1,10 +1,7 @@
 -- Lists of entries that several callers add to, each under numbers of its own.
-use Rattle.std.specs.Prelude.{◌≡◌, ◌⊎◌, ℕ, zero, suc, ◌<◌, ◌≤◌, ◌==◌, cond, nat_lt, List, [], ◌∷◌, ◌++◌, length}
-use Rattle.std.specs.List.{filter}
-
-abbrev pub IsAmong : ℕ → List ℕ → Type 0
-IsAmong k [] = ⊥
-IsAmong k (x ∷ xs) = (x ≡ k) ⊎ IsAmong k xs
+use Rattle.std.specs.Prelude.{◌≡◌, ℕ, zero, suc, ◌<◌, ◌≤◌, ◌==◌, cond, nat_lt, List, [], ◌∷◌, length}
+use Rattle.std.specs.List.{AllByRecursion}
+use Rattle.a1_base.specs.Lists.{IsAmong, entries_of}
 
 -- the numbers but k
 abbrev pub without : ℕ → List ℕ → List ℕ
@@ -21,10 +18,6 @@ abbrev pub HasAll : ℕ → List ℕ → Type 0
 HasAll n numbers = (k : ℕ) → 0 < k → k ≤ n → IsAmong k numbers
 
 module _ {E : Type 0} where
-  -- the log begins with what was seen
-  abbrev pub Begins : List E → List E → Type 0
-  Begins log seen = (rest : List E) × (log ≡ seen ++ rest)
-
   abbrev pub longer : List E → List E → List E
   longer a b = cond (nat_lt (length a) (length b)) b a
 
@@ -32,15 +25,10 @@ module _ {E : Type 0} where
   shorter a b = cond (nat_lt (length a) (length b)) a b
 
 module _ {E : Type 0} (number : E → ℕ) where
-  -- the entries of number k
-  abbrev pub entries_of : ℕ → List E → List E
-  entries_of k log = filter (λ e. number e == k) log
-
   -- each entry's number is one of these
   abbrev pub AllOf : List ℕ → List E → Type 0
-  AllOf numbers [] = Unit {0}
-  AllOf numbers (e ∷ es) = IsAmong (number e) numbers × AllOf numbers es
+  AllOf numbers es = AllByRecursion (λ e. IsAmong (number e) numbers) es
 
   -- both lists have the same entries of each of these numbers
   abbrev pub SameOwn : List ℕ → List E → List E → Type 0
-  SameOwn numbers before after = (k : ℕ) → IsAmong k numbers → entries_of k after ≡ entries_of k before
+  SameOwn numbers before after = (k : ℕ) → IsAmong k numbers → entries_of number k after ≡ entries_of number k before

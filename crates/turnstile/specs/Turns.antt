@@ -8,7 +8,8 @@ use Rattle.atomic_table.specs.Table.{State, Me, Step}
 use Rattle.turnstile.specs.declared.view.Stage.{Stage}
 use Rattle.turnstile.specs.declared.view.Stage.TheVariants.{Idle, Waits, Inside}
 use Rattle.turnstile.specs.declared.view.View.{View}
-use Rattle.turnstile.specs.Entries.{IsAmong, without, up_to, Begins, longer, shorter, entries_of, SameOwn}
+use Rattle.turnstile.specs.Entries.{without, up_to, longer, shorter, SameOwn}
+use Rattle.a1_base.specs.Lists.{IsAmong, BeginsWith, entries_of}
 
 -- the words count modulo 2^64
 abbrev pub word_of : ℕ → ℕ
@@ -60,8 +61,8 @@ module _ {E : Type 0} where
   SomebodyInside views = (i : ℕ) × (v : View E) × (n : ℕ) × (get_elem? views i ≡ some v) × (v.stage ≡ Inside n)
 
 -- what the rule says of one view
-pub record Fits {E : Type 0} (number : E → ℕ) (passes : ℕ) (log : List E) (drawn served : ℕ) (v : View E) : Type 0 where
-  pub seen : Begins log v.seen
+pub record ViewFits {E : Type 0} (number : E → ℕ) (passes : ℕ) (log : List E) (drawn served : ℕ) (v : View E) : Type 0 where
+  pub seen : BeginsWith log v.seen
   -- the entries of each number that it holds are those that it shows
   pub own : (k : ℕ) → IsAmong k v.numbers → entries_of number k log ≡ entries_of number k v.seen
   pub range : (k : ℕ) → IsAmong k v.numbers → (0 < k) × (k ≤ passes)
@@ -69,7 +70,7 @@ pub record Fits {E : Type 0} (number : E → ℕ) (passes : ℕ) (log : List E) 
   pub ticket : (n : ℕ) → HasTicket v.stage n → (served ≤ n) × (n < drawn) × (0 < length v.numbers)
   -- only the ticket that is served is inside, and knows the whole log
   pub inside : (n : ℕ) → v.stage ≡ Inside n → (n ≡ served) × (log ≡ v.seen)
-  pub heard : Begins v.seen v.heard
+  pub heard : BeginsWith v.seen v.heard
   pub heard_own : (k : ℕ) → IsAmong k v.heard_numbers → entries_of number k v.seen ≡ entries_of number k v.heard
 
 -- no number and no ticket belongs to both
@@ -93,10 +94,10 @@ pub record Kept {T E : Type 0} (stands : T → List E → Type 0) (number : E �
   pub out : sum_by (λ (v : View E). tickets v.stage) s.views + served ≡ drawn
   pub few : passes < 2 ^ 32
   pub held : sum_by (λ (v : View E). length v.numbers) s.views ≤ passes
-  pub begins : Begins log (start ∷ [])
+  pub begins : BeginsWith log (start ∷ [])
   pub zeros : entries_of number 0 log ≡ start ∷ []
   pub no_more : (k : ℕ) → passes < k → entries_of number k log ≡ []
-  pub fits : (i : ℕ) (v : View E) → get_elem? s.views i ≡ some v → Fits number passes log drawn served v
+  pub fits : (i : ℕ) (v : View E) → get_elem? s.views i ≡ some v → ViewFits number passes log drawn served v
   pub apart : (i j : ℕ) (v w : View E) → i ≢ j → get_elem? s.views i ≡ some v → get_elem? s.views j ≡ some w → Apart v w
   pub slot : Slot stands log s.homes s.views
 
@@ -116,7 +117,7 @@ module _ {T E : Type 0} (stands : T → List E → Type 0) (number : E → ℕ) 
   -- with the slot in hand, the value stands for the list that is then seen, which begins with what was seen before and
   -- has no other entries of its numbers
   abbrev pub Entered : ℕ → View E → Me (Option T) (View E) → Type 0
-  Entered d v m' = (y : T) × (m' ≡ (view (Inside d) v.numbers m'.0.seen, (0, Some y) ∷ [])) × stands y m'.0.seen × Begins m'.0.seen v.seen × SameOwn number v.numbers v.seen m'.0.seen
+  Entered d v m' = (y : T) × (m' ≡ (view (Inside d) v.numbers m'.0.seen, (0, Some y) ∷ [])) × stands y m'.0.seen × BeginsWith m'.0.seen v.seen × SameOwn number v.numbers v.seen m'.0.seen
 
   -- the ticket that is served was looked at, and is this seat's or not
   abbrev pub LookedAt : ℕ → Me (Option T) (View E) → ℕ → Me (Option T) (View E) → Type 0
@@ -139,7 +140,7 @@ module _ {S E : Type 0} where
 
   -- what was seen begins with what was heard, and hides no entries of the other's numbers
   abbrev pub Learned : (E → ℕ) → Me S (View E) → Me S (View E) → Type 0
-  Learned number m m' = Begins m.0.seen m.0.heard × SameOwn number m.0.heard_numbers m.0.heard m.0.seen × (m' ≡ (view m.0.stage m.0.numbers m.0.seen, m.1))
+  Learned number m m' = BeginsWith m.0.seen m.0.heard × SameOwn number m.0.heard_numbers m.0.heard m.0.seen × (m' ≡ (view m.0.stage m.0.numbers m.0.seen, m.1))
 
   abbrev pub learned : (E → ℕ) → Step S → Me S (View E) → ℕ → Me S (View E) → Type 0
   learned number st m n m' = Learned number m m'
@@ -150,6 +151,6 @@ IsDone {T} stands m = (n : ℕ) × (y : T) × (m.0.stage ≡ Inside n) × (m.1 �
 
 -- The value at the end stands for a log that begins with what was seen. What was seen has all entries of each number from 1
 -- on, and the log has no other entry of number 0 than the first
-abbrev pub Ended : {T E : Type 0} → (T → List E → Type 0) → (E → ℕ) → E → T → List E → Type 0
-Ended {T} {E} stands number start y seen =
-    (log : List E) × stands y log × Begins log seen × ((k : ℕ) → 0 < k → entries_of number k log ≡ entries_of number k seen) × (entries_of number 0 log ≡ start ∷ [])
+abbrev pub ClosesWith : {T E : Type 0} → (T → List E → Type 0) → (E → ℕ) → E → T → List E → Type 0
+ClosesWith {T} {E} stands number start y seen =
+    (log : List E) × stands y log × BeginsWith log seen × ((k : ℕ) → 0 < k → entries_of number k log ≡ entries_of number k seen) × (entries_of number 0 log ≡ start ∷ [])

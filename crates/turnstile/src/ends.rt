@@ -1,7 +1,7 @@
 //! How a turnstile is made, and how it ends.
 ghost use Rattle.std.specs.Prelude.{◌≡◌, ◌<◌, [], ◌∷◌, IfOk, IfErr};
 ghost use Rattle.turnstile.specs.Entries.{HasAll, up_to};
-ghost use Rattle.turnstile.specs.Turns.{Ended};
+ghost use Rattle.turnstile.specs.Turns.{ClosesWith};
 ghost use Rattle.turnstile.specs.Passes.{IsPassOf, first_value, numbers, pass_count, seen};
 
 use crate::keeps::Keeps;
@@ -54,7 +54,7 @@ impl<T: Keeps> Turnstile<T> {
     pub fn close(self, pass: Pass<T>) -> T
         requires pass { IsPassOf self pass }
         requires all { HasAll (pass_count self) (numbers pass) }
-        ensures { Ended T.stands T.number (T.first (first_value self)) result (seen pass) }
+        ensures { ClosesWith T.stands T.number (T.first (first_value self)) result (seen pass) }
     {
         let Turnstile { table } = self;
         let Pass { seat } = pass;

@@ -1,6 +1,7 @@
 //! How passes give numbers to one another.
 ghost use Rattle.std.specs.Prelude.{◌≡◌, ◌≢◌, ℕ, [], ◌∷◌, ◌++◌};
-ghost use Rattle.turnstile.specs.Entries.{Begins, IsAmong, SameOwn, longer, without};
+ghost use Rattle.turnstile.specs.Entries.{SameOwn, longer, without};
+ghost use Rattle.a1_base.specs.Lists.{IsAmong, BeginsWith};
 ghost use Rattle.turnstile.specs.Turns.{first_half, second_half};
 ghost use Rattle.turnstile.specs.Passes.{IsPassOf, numbers, seen};
 ghost use Rattle.turnstile.specs.declared.view.Stage.TheVariants.{Idle};
@@ -49,7 +50,7 @@ impl<T: Keeps> Turnstile<T> {
         ensures pass { IsPassOf self.now result }
         ensures numbers { numbers result ≡ numbers a ++ numbers b }
         ensures seen { seen result ≡ longer (seen a) (seen b) }
-        ensures begins { Begins (seen result) (seen a) × Begins (seen result) (seen b) }
+        ensures begins { BeginsWith (seen result) (seen a) × BeginsWith (seen result) (seen b) }
         ensures own { SameOwn T.number (numbers a) (seen a) (seen result) × SameOwn T.number (numbers b) (seen b) (seen result) }
     {
         let Pass { mut seat } = a;

@@ -1,6 +1,7 @@
 //! Entering and leaving, one atomic step a function.
 ghost use Rattle.std.specs.Prelude.{◌≡◌, ◌<◌, ℕ, true, [], ◌++◌, length};
-ghost use Rattle.turnstile.specs.Entries.{AllOf, Begins, SameOwn};
+ghost use Rattle.turnstile.specs.Entries.{AllOf, SameOwn};
+ghost use Rattle.a1_base.specs.Lists.{BeginsWith};
 ghost use Rattle.turnstile.specs.Turns.{Drawn, Entered, Gone, IsDone, IsWaiting, having_added, is_inside};
 ghost use Rattle.turnstile.specs.Passes.{IsPassOf, IsTurnOf, entered, numbers, seen, turn_numbers};
 ghost use Rattle.turnstile.specs.declared.view.Stage.TheVariants.{Idle};
@@ -77,7 +78,7 @@ impl<T: Keeps> Turnstile<T> {
         ensures turn { IsTurnOf self.now result }
         ensures numbers { turn_numbers result ≡ numbers pass }
         ensures stands { T.stands result.value (entered result) }
-        ensures begins { Begins (entered result) (seen pass) }
+        ensures begins { BeginsWith (entered result) (seen pass) }
         ensures own { SameOwn T.number (numbers pass) (seen pass) (entered result) }
     {
         let Pass { mut seat } = pass;

@@ -1,6 +1,7 @@
 //! A book behind a turnstile, in which several threads write.
 ghost use Rattle.std.specs.Prelude.{◌≡◌, ◌<◌, ◌≤◌, ◌-◌, ◌++◌, ℕ, List, [], ◌∷◌, IfOk, IfSome, IsTrue, refl};
-ghost use Rattle.turnstile.specs.Entries.{IsAmong, entries_of, up_to};
+ghost use Rattle.turnstile.specs.Entries.{up_to};
+ghost use Rattle.a1_base.specs.Lists.{IsAmong, entries_of};
 ghost use Rattle.turnstile.specs.Book.{Mark, HasEach, HasWritten, HaveWritten, told, writer};
 ghost use Rattle.turnstile.specs.Passes.{IsPassOf, numbers, seen};
 

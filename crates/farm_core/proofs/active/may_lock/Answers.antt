@@ -1,5 +1,5 @@
 use Rattle.std.proofs.Common.{◌∙◌, ap}
-use Rattle.farm_node.specs.Plain.{Plain}
+use Rattle.farm_node.specs.NodeState.{NodeState}
 use Rattle.farm_node.specs.State.{may_lock}
 use Rattle.farm_core.proofs.NodeLists.{fetched}
 use Rattle.farm_core.proofs.active.may_lock.Goals as goal
@@ -7,4 +7,4 @@ use Rattle.farm_core.proofs.active.may_lock.Goals as goal
 pub returns : goal.returns
 returns c =
     c.may_lock.ensures
-    ∙ ap (λ (p : Plain). may_lock c.args.t c.args.r (p.cells c.args.at)) (fetched c.args.nodes.now c.args.at c.home.result c.index-nodes-home.result c.home.ensures.is c.home.ensures.low c.index-nodes-home.is)
+    ∙ ap (λ (p : NodeState). may_lock c.args.t c.args.r (p.cells c.args.at)) (fetched c.args.nodes.now c.args.at c.home.result c.index-nodes-home.result c.home.ensures.is c.home.ensures.low c.index-nodes-home.is)

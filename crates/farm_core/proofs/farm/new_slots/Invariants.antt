@@ -1,6 +1,7 @@
-use Rattle.std.proofs.Common.{◌≡◌, vec_capacity}
+use Rattle.std.proofs.Common.{◌≡◌, ◌+◌, vec_capacity}
+use Rattle.a1_base.specs.declared.limits.TheConstants.{ACTOR_LIMIT}
 use Rattle.farm_core.proofs.Running.{NewTo}
 use Rattle.farm_core.proofs.farm.new_slots.Given as goal
 
 abbrev pub invariant-loop : goal.invariant-loop
-invariant-loop l = record { new : NewTo l.counter l.slots.items; room : vec_capacity l.slots ≡ 36 }
+invariant-loop l = record { new : NewTo l.counter l.slots.items; room : vec_capacity l.slots ≡ ACTOR_LIMIT + 1 }

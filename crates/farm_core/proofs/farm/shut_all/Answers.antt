@@ -1,6 +1,6 @@
 use Rattle.std.proofs.Common.{◌<◌, length, ap, ◌∙◌, arith}
 use Rattle.farm_node.specs.declared.entry.Entry.TheVariants.{Shut}
-use Rattle.farm_node.specs.Plain.{Plain}
+use Rattle.farm_node.specs.NodeState.{NodeState}
 use Rattle.farm_core.proofs.EachNode.{next_is, rest_more, done_more}
 use Rattle.farm_core.proofs.farm.shut_all.Goals as goal
 
@@ -9,7 +9,7 @@ shut-requires c =
     let low : c.loop-node.node-index < length c.loop-node.nodes = omega arith in
     let here = next_is c.args.nodes.now c.loop-node.nodes c.loop-node.node-index low c.node-item.result c.node-item.result (λ p. Shut c.args.actor) c.loop-node.invariant.rest in
     let pin = c.requires c.loop-node.node-index (omega arith) in
-    record { pinned = (pin.0, ap (λ (p : Plain). p.pins c.args.actor) here ∙ pin.1) }
+    record { pinned = (pin.0, ap (λ (p : NodeState). p.pins c.args.actor) here ∙ pin.1) }
 
 pub loop-node-preserved : goal.loop-node-preserved
 loop-node-preserved c =

@@ -1,6 +1,6 @@
 use Rattle.std.proofs.Common.{◌≡◌, ◌<◌, ◌≤◌, ℕ}
 use Rattle.farm_node.specs.declared.entry.Entry.TheVariants.{Shut}
-use Rattle.farm_node.specs.Plain.{Adds}
+use Rattle.farm_node.specs.NodeState.{Adds}
 use Rattle.farm_core.specs.Standing.{plains}
 use Rattle.farm_core.proofs.farm.shut_all.Given as goal
 

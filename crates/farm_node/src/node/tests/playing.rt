@@ -1,6 +1,6 @@
 //! Events as data, which a node is made to answer. What each call requires is asserted.
 ghost use Rattle.std.specs.Prelude.{◌≡◌, ◌≤◌, ◌<◌, ◌↔◌, None, IsTrue};
-ghost use Rattle.farm_node.specs.Plain.{PinnedBy, HeldBy, MayLock, MayPut};
+ghost use Rattle.farm_node.specs.NodeState.{PinnedBy, HeldBy, MayLock, MayPut};
 ghost use Rattle.farm_node.specs.Node.{plain_of};
 
 use crate::entry::{CheckFault, Collected, Found, Locked, Placed};

@@ -2,8 +2,8 @@ use Rattle.std.proofs.Common.{◌+◌, ◌<◌, ◌^◌, arith}
 use Rattle.farm_core.proofs.Acting.{draw_spent, draw_stamp, clock_fits}
 use Rattle.farm_core.proofs.active.Active.draw.Goals as goal
 
-pub returns-then-clock : goal.returns-then-clock
-returns-then-clock c = λ nodes s r at meets. draw_spent s r c.args.t c.args.self.now nodes at.standing c.args.clock.now at.clock_is c.if-clock.true
+pub returns-then-clock-eq-LAST_STAMP : goal.returns-then-clock-eq-LAST_STAMP
+returns-then-clock-eq-LAST_STAMP c = λ nodes s r at meets. draw_spent s r c.args.t c.args.self.now nodes at.standing c.args.clock.now at.clock_is c.if-clock-eq-LAST_STAMP.true
 
 pub overflow_add-clock : goal.overflow_add-clock
 overflow_add-clock c =
@@ -12,4 +12,4 @@ overflow_add-clock c =
     omega arith
 
 pub returns : goal.returns
-returns c = λ nodes s r at meets. draw_stamp s r c.args.t c.args.self.now nodes at.standing c.args.clock.now at.clock_is c.if-clock.false
+returns c = λ nodes s r at meets. draw_stamp s r c.args.t c.args.self.now nodes at.standing c.args.clock.now at.clock_is c.if-clock-eq-LAST_STAMP.false

@@ -1,4 +1,5 @@
 use Rattle.std.proofs.Common.{◌<◌, refl, arith}
+use Rattle.a1_base.specs.declared.limits.TheConstants.{COLLECTOR_ACTOR}
 use Rattle.farm_core.proofs.Collecting.{stamp_low, collect_stands}
 use Rattle.farm_core.proofs.farm.Farm.collect.Goals as goal
 
@@ -7,6 +8,6 @@ collect-removed-requires c = let known = c.requires.known in record { stamp = st
 
 pub returns-clause-steps : goal.returns-clause-steps
 returns-clause-steps c = λ s st.
-    let some : 0 < 34 = omega arith in
+    let some : 0 < COLLECTOR_ACTOR = omega arith in
     collect_stands c.args.self.now s st c.args.node c.index_mut.result.now c.collect-removed.new.self c.collect-removed.result _ c.requires.node c.index_mut.ensures.value (c.collect-removed.ensures 34 some)
     refl refl refl refl

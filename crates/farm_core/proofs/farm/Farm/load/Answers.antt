@@ -1,5 +1,5 @@
 use Rattle.std.proofs.Common.{ℕ, ◌%◌, ◌∙◌, is_some, ap, refl, sym}
-use Rattle.farm_node.specs.Plain.{Plain}
+use Rattle.farm_node.specs.NodeState.{NodeState}
 use Rattle.farm_core.proofs.Loading.{here, load_closed, load_taken, load_stamp, load_place, load_stands, load_failed}
 use Rattle.farm_core.proofs.farm.Farm.load.Goals as goal
 
@@ -24,7 +24,7 @@ pub returns-in-Ok-clause-steps : goal.returns-in-Ok-clause-steps
 returns-in-Ok-clause-steps c = λ s st object.
     load_stands c.args.self.now s st c.args.at c.home-node.result (c.home-node.ensures.is ∙ ap (λ (k : ℕ). c.args.at.region % k) (c.len.ensures ∙ c.args.self.now.nodes.ok.0)) c.index_mut.result.now c.index_mut.ensures.value c.if-not-self.false
     c.load_one.new.self c.args.bytes.now c.in_ok-bytes.bytes (c.in_ok-bytes.ensures ∙ c.as_slice.ensures) c.has_object.result
-    (c.has_object.ensures ∙ ap (λ (p : Plain). is_some (p.cells c.args.at))
+    (c.has_object.ensures ∙ ap (λ (p : NodeState). is_some (p.cells c.args.at))
     (here c.args.self.now s st c.args.at c.home-node.result (c.home-node.ensures.is ∙ ap (λ (k : ℕ). c.args.at.region % k) (c.len.ensures ∙ c.args.self.now.nodes.ok.0)) c.index.result.now c.index.ensures
     ∙ sym (here c.args.self.now s st c.args.at c.home-node.result (c.home-node.ensures.is ∙ ap (λ (k : ℕ). c.args.at.region % k) (c.len.ensures ∙ c.args.self.now.nodes.ok.0)) c.index_mut.result.now c.index_mut.ensures.value)))
     c.if-has_object.false

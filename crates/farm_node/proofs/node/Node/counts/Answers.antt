@@ -1,7 +1,7 @@
 use Rattle.std.proofs.Common.{◌∙◌, ap, sym, refl, arith}
 use Rattle.std.specs.BTreeMap.{values}
 use Rattle.object_region.specs.Regions.{occupancy_of}
-use Rattle.farm_node.specs.Plain.{counted}
+use Rattle.farm_node.specs.NodeState.{counted}
 use Rattle.farm_node.specs.Node.{plain_of}
 use Rattle.farm_node.proofs.Counts.{lengths, versions_are, objects_are, none_counted, count_begins, count_more, count_ends}
 use Rattle.farm_node.proofs.Sweeping.{placed_by, no_regions}

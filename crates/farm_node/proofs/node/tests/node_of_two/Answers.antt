@@ -3,7 +3,7 @@ use Rattle.a1_base.specs.declared.place.Addr.{Addr}
 use Rattle.object_region.specs.Occupancy.{width, region_count}
 use Rattle.farm_node.specs.declared.entry.Start.{Start}
 use Rattle.farm_node.specs.Cell.{Bytes}
-use Rattle.farm_node.specs.Plain.{Plain, begun}
+use Rattle.farm_node.specs.NodeState.{NodeState, begun}
 use Rattle.farm_node.specs.State.{CanLoad}
 use Rattle.farm_node.specs.Node.{plain_of}
 use Rattle.farm_node.proofs.node.tests.node_of_two.Goals as goal
@@ -19,5 +19,5 @@ pub load-requires-clause-places : goal.load-requires-clause-places
 load-requires-clause-places c =
     let h = c.in_ok-two_objects.ensures in
     let begins : plain_of c.in_ok-node.node ≡ begun start = c.in_ok-node.ensures.state in
-    subst (λ (p : Plain). CanLoad p c.in_ok-two_objects.field-0.items) (sym begins)
+    subst (λ (p : NodeState). CanLoad p c.in_ok-two_objects.field-0.items) (sym begins)
     (subst (λ (objects : List (Addr × Bytes)). CanLoad (begun start) objects) (sym h.2) (loads h.0 h.1))

@@ -1,6 +1,7 @@
 use Rattle.std.proofs.Common.{◌∙◌, sym, ap, subst}
 use Rattle.std.specs.Prelude.{IsSome}
-use Rattle.object_region.specs.Occupancy.{Occupancy, In, with_place}
+use Rattle.object_region.specs.Occupancy.{Occupancy, with_place}
+use Rattle.a1_base.specs.Lists.{IsAmong}
 use Rattle.object_region.specs.Regions.{Regions, occupancy_of, made_at}
 use Rattle.object_region.proofs.Keys.{made_from_In, In_added}
 use Rattle.object_region.proofs.Taken.{placed_twice}
@@ -12,7 +13,7 @@ mark-requires-clause-made c =
     let region = c.args.a.region in
     elim c.if-not-contains_key.branch [
       | then-not-contains_key+in_ok-make w ↦
-          let made = subst (λ (o : Occupancy). In region o.regions) (sym w.in_ok-make.ensures.ok) (In_added region _) in
+          let made = subst (λ (o : Occupancy). IsAmong region o.regions) (sym w.in_ok-make.ensures.ok) (In_added region _) in
           subst (λ (r : Regions). IsSome (made_at r.made region)) (sym w.self-is) (made_from_In region _ made)
       | else-not-contains_key w ↦ subst (λ (r : Regions). IsSome (made_at r.made region)) (c.self.view_is ∙ sym w.self-is) (sym w.if-not-contains_key.ensures)
     ]

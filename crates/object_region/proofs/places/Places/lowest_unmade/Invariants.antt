@@ -1,5 +1,6 @@
 use Rattle.std.proofs.Common.{◌≡◌, ◌-◌}
 use Rattle.std.specs.BinaryHeap.{heap_items, heap_capacity}
+use Rattle.a1_base.specs.declared.limits.TheConstants.{REGION_LIMIT}
 use Rattle.object_region.specs.Regions.{IsKept}
 use Rattle.object_region.proofs.places.Places.lowest_unmade.Given as goal
 
@@ -12,4 +13,4 @@ invariant-loop-self l = record {
 }
 
 abbrev pub decreases-loop-self : goal.decreases-loop-self
-decreases-loop-self l = 1048576 - l.self-inside.next
+decreases-loop-self l = REGION_LIMIT - l.self-inside.next

@@ -1,4 +1,5 @@
 use Rattle.std.proofs.Common.{◌≡◌, ◌<◌, ◌-◌, ℕ, true, vec_len}
+use Rattle.a1_base.specs.declared.limits.TheConstants.{REGION_WIDTH}
 use Rattle.object_region.specs.Occupancy.{width}
 use Rattle.object_region.specs.Flags.{is_taken}
 use Rattle.object_region.proofs.region.Region.first_free.Given as goal
@@ -11,4 +12,4 @@ invariant-loop-self l = record {
 }
 
 abbrev pub decreases-loop-self : goal.decreases-loop-self
-decreases-loop-self l = 4096 - l.self-inside.low
+decreases-loop-self l = REGION_WIDTH - l.self-inside.low

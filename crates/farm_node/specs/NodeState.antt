@@ -1,6 +1,8 @@
 -- A node's plain state, which entries are lawful there, what each leaves, and the replay of a list of entries.
 use Rattle.std.specs.Prelude.{◌≡◌, ℕ, zero, suc, ◌+◌, ◌-◌, ◌^◌, ◌<◌, ◌≤◌, ◌==◌, max, min, cond, List, [], ◌∷◌, Option, Some, None, Result, Ok, Err, is_some, ◌⊎◌}
 use Rattle.a1_base.specs.declared.place.Addr.{Addr}
+use Rattle.a1_base.specs.declared.limits.TheConstants.{NODE_LIMIT}
+use Rattle.a1_base.specs.Stamps.{IsStamp}
 use Rattle.a1_base.specs.declared.place.TxnId.{TxnId}
 use Rattle.object_region.specs.Occupancy.{width, same_addr, add_region, Occupancy, IsPlace, LeastFree}
 use Rattle.farm_node.specs.declared.hold.Hold.{Hold}
@@ -12,13 +14,9 @@ use Rattle.farm_node.specs.declared.entry.Entry.{Entry}
 use Rattle.farm_node.specs.declared.entry.Entry.TheVariants.{Made, Open, Shut, Read, Alloc, Lock, Check, Put, Unlock, Collect}
 use Rattle.farm_node.specs.Cell.{Bytes, Cell, found_at, read_answer, raised_to, past_raised, made_by, loaded_cell, locked_by, lock_answer, check_answer, installed, released, past_released, collected, past_collected, objects_in, versions_in}
 
--- stamps stay below 2^62
-abbrev pub IsStamp : ℕ → Type 0
-IsStamp s = s < 2 ^ 62
-
 -- what is at each address, the regions in which a place was ever taken, by rising number, and the pin of each actor.
 -- past bars puts at addresses without an object as bound does at the others; floor is that of the last collection
-pub record Plain : Type 0 where
+pub record NodeState : Type 0 where
   pub cells : Addr → Option Cell
   pub regions : List ℕ
   pub pins : ℕ → Option ℕ
@@ -29,7 +27,7 @@ pub record Plain : Type 0 where
   pub actors : ℕ
 
 -- a place is taken where an object is there
-abbrev pub occupancy : Plain → Occupancy
+abbrev pub occupancy : NodeState → Occupancy
 occupancy p = record { node = p.node; nodes = p.nodes; regions = p.regions; taken = λ a. is_some (p.cells a) }
 
 abbrev pub set_cell : Addr → Option Cell → (Addr → Option Cell) → Addr → Option Cell
@@ -53,10 +51,10 @@ total count cells [] = 0
 total count cells (a ∷ rest) = count (cells a) + total count cells rest
 
 -- how many objects and versions the node has
-abbrev pub object_count : Plain → ℕ
+abbrev pub object_count : NodeState → ℕ
 object_count p = total objects_in p.cells (places p.regions)
 
-abbrev pub version_count : Plain → ℕ
+abbrev pub version_count : NodeState → ℕ
 version_count p = total versions_in p.cells (places p.regions)
 
 -- collection
@@ -71,7 +69,7 @@ least_pin f pins zero = f
 least_pin f pins (suc n) = lesser (pins (suc n)) (least_pin f pins n)
 
 -- never below the old floor
-abbrev pub new_floor : Plain → ℕ → ℕ
+abbrev pub new_floor : NodeState → ℕ → ℕ
 new_floor p f = max p.floor (least_pin f p.pins p.actors)
 
 abbrev pub cells_collected : ℕ → (Addr → Option Cell) → Addr → Option Cell
@@ -82,7 +80,7 @@ abbrev pub past_over : ℕ → (Addr → Option Cell) → List Addr → ℕ → 
 past_over floor cells [] past = past
 past_over floor cells (a ∷ rest) past = past_collected floor (cells a) (past_over floor cells rest past)
 
-abbrev pub after_collect : ℕ → Plain → Plain
+abbrev pub after_collect : ℕ → NodeState → NodeState
 after_collect floor p = record p { cells = cells_collected floor p.cells; past = past_over floor p.cells (places p.regions) p.past; floor = floor }
 
 -- a count of versions stands still at the end of its type
@@ -90,7 +88,7 @@ abbrev pub counted : ℕ → ℕ
 counted n = min n (2 ^ 64 - 1)
 
 -- the numbers removed are those before less those after
-abbrev pub collect_answer : Plain → ℕ → Collected
+abbrev pub collect_answer : NodeState → ℕ → Collected
 collect_answer p f =
     let floor = new_floor p f in
     let later = after_collect floor p in
@@ -99,44 +97,44 @@ collect_answer p f =
 -- conditions
 
 -- the actor has a pin, and it is at most s
-abbrev pub PinnedBy : Plain → ℕ → ℕ → Type 0
+abbrev pub PinnedBy : NodeState → ℕ → ℕ → Type 0
 PinnedBy p k s = (x : ℕ) × (p.pins k ≡ Some x) × (x ≤ s)
 
 -- the transaction has the lock
-abbrev pub HeldBy : Plain → TxnId → Addr → Type 0
+abbrev pub HeldBy : NodeState → TxnId → Addr → Type 0
 HeldBy p t a = (c : Cell) × (h : Hold) × (p.cells a ≡ Some c) × (c.lock ≡ Some h) × (h.by ≡ t)
 
 -- it still has the lock from its own Alloc
-abbrev pub HeldNew : Plain → TxnId → Addr → Type 0
+abbrev pub HeldNew : NodeState → TxnId → Addr → Type 0
 HeldNew p t a = (c : Cell) × (h : Hold) × (p.cells a ≡ Some c) × (c.lock ≡ Some h) × (h.by ≡ t) × (c.versions ≡ [])
 
 -- the address has a value at r
-abbrev pub HasValue : Plain → Addr → ℕ → Type 0
+abbrev pub HasValue : NodeState → Addr → ℕ → Type 0
 HasValue p a r = (c : Cell) × (v : Bytes) × (p.cells a ≡ Some c) × ((found_at r c.versions).value ≡ Some v)
 
 -- a lock may be asked for where there is a value at r, and the transaction does not hold it or holds it from its own
 -- Alloc
-abbrev pub MayLock : Plain → TxnId → Addr → ℕ → Type 0
+abbrev pub MayLock : NodeState → TxnId → Addr → ℕ → Type 0
 MayLock p t a r = (HasValue p a r × (HeldBy p t a → ⊥)) ⊎ HeldNew p t a
 
 -- a put has to exceed the bound
-abbrev pub MayPut : Plain → TxnId → Addr → ℕ → Type 0
+abbrev pub MayPut : NodeState → TxnId → Addr → ℕ → Type 0
 MayPut p t a w = (c : Cell) × (h : Hold) × (p.cells a ≡ Some c) × (c.lock ≡ Some h) × (h.by ≡ t) × (c.bound < w)
 
-pub record FitsLock (p : Plain) (t : TxnId) (a : Addr) (r : ℕ) (answer : Result Locked CheckFault) : Type 0 where
+pub record FitsLock (p : NodeState) (t : TxnId) (a : Addr) (r : ℕ) (answer : Result Locked CheckFault) : Type 0 where
   pub pinned : PinnedBy p t.actor r
   pub stamp : IsStamp r
   pub may : MayLock p t a r
   pub due : answer ≡ lock_answer t r (p.cells a)
 
-pub record FitsCheck (p : Plain) (t : TxnId) (a : Addr) (r w : ℕ) (answer : Result (Unit {0}) CheckFault) : Type 0 where
+pub record FitsCheck (p : NodeState) (t : TxnId) (a : Addr) (r w : ℕ) (answer : Result (Unit {0}) CheckFault) : Type 0 where
   pub pinned : PinnedBy p t.actor r
   pub stamps : IsStamp r × IsStamp w
   pub not_own : HeldBy p t a → ⊥
   pub due : answer ≡ check_answer r (p.cells a)
 
 -- the entry meets its condition, and its answer is the one that is due
-abbrev pub Fits : Plain → Entry → Type 0
+abbrev pub Fits : NodeState → Entry → Type 0
 Fits p (Made start) = ⊥
 Fits p (Open k c x) = (0 < k) × (k ≤ p.actors) × (p.pins k ≡ None) × IsStamp c × (x ≡ max c p.floor)
 Fits p (Shut k) = (x : ℕ) × (p.pins k ≡ Some x)
@@ -149,11 +147,11 @@ Fits p (Unlock t a) = HeldBy p t a
 Fits p (Collect k f removed) = (0 < k) × IsStamp f × (removed ≡ collect_answer p f)
 
 -- an address was read, or checked and found the same, at s
-abbrev pub looked_at : Addr → ℕ → Plain → Plain
+abbrev pub looked_at : Addr → ℕ → NodeState → NodeState
 looked_at a s p = record p { cells = set_cell a (raised_to s (p.cells a)) p.cells; past = past_raised s (p.cells a) p.past }
 
 -- the state that an entry leaves
-abbrev pub after : Plain → Entry → Plain
+abbrev pub after : NodeState → Entry → NodeState
 after p (Made start) = p
 after p (Open k c x) = record p { pins = set_pin k (Some x) p.pins }
 after p (Shut k) = record p { pins = set_pin k None p.pins }
@@ -178,7 +176,7 @@ abbrev pub loaded_regions : List (Addr × Bytes) → List ℕ
 loaded_regions [] = []
 loaded_regions (x ∷ xs) = add_region x.0.region (loaded_regions xs)
 
-abbrev pub begun : Start → Plain
+abbrev pub begun : Start → NodeState
 begun m = record {
   cells = loaded_cells m.stamp m.heap;
   regions = loaded_regions m.heap;
@@ -195,24 +193,24 @@ abbrev pub Loads : Start → List (Addr × Bytes) → Type 0
 Loads m [] = Unit {0}
 Loads m (x ∷ xs) = IsPlace (occupancy (begun m)) x.0 × (loaded_cells m.stamp xs x.0 ≡ None) × Loads m xs
 
-abbrev pub Begins : Start → Type 0
-Begins m = (m.node < m.nodes) × (m.nodes ≤ 16) × (0 < m.stamp) × IsStamp m.stamp × Loads m m.heap
+abbrev pub IsStart : Start → Type 0
+IsStart m = (m.node < m.nodes) × (m.nodes ≤ NODE_LIMIT) × (0 < m.stamp) × IsStamp m.stamp × Loads m m.heap
 
 -- the replay of a list, and the lists that are lawful
 
-abbrev pub replay_from : Plain → List Entry → Plain
+abbrev pub replay_from : NodeState → List Entry → NodeState
 replay_from p [] = p
 replay_from p (e ∷ es) = replay_from (after p e) es
 
-abbrev pub LawfulFrom : Plain → List Entry → Type 0
+abbrev pub LawfulFrom : NodeState → List Entry → Type 0
 LawfulFrom p [] = Unit {0}
 LawfulFrom p (e ∷ es) = Fits p e × LawfulFrom (after p e) es
 
 -- the state of a list that is none of a node
-abbrev pub nowhere : Plain
+abbrev pub nowhere : NodeState
 nowhere = record { cells = λ a. None; regions = []; pins = λ k. None; past = 0; floor = 0; node = 0; nodes = 1; actors = 0 }
 
-abbrev pub replay : List Entry → Plain
+abbrev pub replay : List Entry → NodeState
 replay [] = nowhere
 replay (Made m ∷ es) = replay_from (begun m) es
 replay (e ∷ es) = nowhere
@@ -220,10 +218,10 @@ replay (e ∷ es) = nowhere
 -- it begins with its only Made, and each further entry meets its condition in the replay of those before it
 abbrev pub Lawful : List Entry → Type 0
 Lawful [] = ⊥
-Lawful (Made m ∷ es) = Begins m × LawfulFrom (begun m) es
+Lawful (Made m ∷ es) = IsStart m × LawfulFrom (begun m) es
 Lawful (e ∷ es) = ⊥
 
 -- a state with one lawful entry more
-pub record Adds (old : Plain) (e : Entry) (new : Plain) : Type 0 where
+pub record Adds (old : NodeState) (e : Entry) (new : NodeState) : Type 0 where
   pub fits : Fits old e
   pub state : new ≡ after old e

@@ -1,5 +1,5 @@
 use Rattle.farm_core.proofs.Sets.{restored}
-use Rattle.farm_core.proofs.reads.Reads.insert.Goals as goal
+use Rattle.farm_core.proofs.reads.ReadMarks.insert.Goals as goal
 
 pub returns-in-Err-clause-err : goal.returns-in-Err-clause-err
 returns-in-Err-clause-err c =
