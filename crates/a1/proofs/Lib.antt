@@ -1,4 +1,4 @@
 pub mod StreamLemmas
-pub mod RunningLemmas
+pub mod RunLemmas
 pub mod StepsLemmas
-pub mod TopLemmas
+pub mod EndingLemmas

@@ -1,4 +1,4 @@
--- Events of a farm, and the text of events.
+-- Events of a farm, and what the rules of the command `steps` give.
 use Rattle.std.proofs.Common.{inl, inr, ℕ, List, [], ◌∷◌, Result, Ok, Err, sym, subst, arith}
 use Rattle.std.specs.Prelude.{IfOk}
 use Rattle.std.specs.List.{All, AllByRecursion}
@@ -10,10 +10,9 @@ use Rattle.farm_core.specs.declared.event.Answer.{Answer}
 use Rattle.steps_text.specs.EventText.{IsEvent, IsTextOf, IsFaultOf}
 use Rattle.steps_text.specs.declared.fault.TextFault.TheVariants.{Line}
 use Rattle.steps_text.proofs.OneReading.{not_broken}
-use Rattle.a1.specs.Outcome.{steps_nodes}
-use Rattle.a1.specs.Parts.{AreAnswers}
-
--- ---- what a farm takes
+use Rattle.a1.specs.StepsCommand.{steps_rules, AreAnswers}
+use Rattle.a1.specs.declared.steps_command.TheConstants.{STEPS_NODES}
+use Rattle.a1.proofs.EndingLemmas.{Lawful, empty_legal}
 
 each_in_range : (nodes : ℕ) (events : List Event) → AllByRecursion (IsEvent nodes) events → AllByRecursion (InRange nodes) events
 each_in_range nodes [] each = tt
@@ -25,12 +24,18 @@ takes_events core nodes events stands each = subst (λ n. All (InRange n) events
 
 -- the answers of a run from the fresh farm on
 pub if_answered : {V E : Type 0} (r : Result V E) (items : V → List Answer) (core : Shown) (events : List Event)
-    → IfOk r (λ v. (later : State) × Runs (fresh steps_nodes) events (items v) later × CoreStands core later) → IfOk r (λ v. AreAnswers events (items v))
+    → IfOk r (λ v. (later : State) × Runs (fresh STEPS_NODES) events (items v) later × CoreStands core later) → IfOk r (λ v. AreAnswers events (items v))
 if_answered (Ok v) items core events ran = (ran.0, ran.1)
 if_answered (Err e) items core events ran = ran
 
--- ---- a text of events has no line that is no event's
-
-pub text_not_broken : (bytes : List ℕ) (events : List Event) (line : ℕ) → IsTextOf steps_nodes bytes events → IsFaultOf steps_nodes bytes (Line line) → ⊥
+-- a text of events has no line that is no event's
+text_not_broken : (bytes : List ℕ) (events : List Event) (line : ℕ) → IsTextOf STEPS_NODES bytes events → IsFaultOf STEPS_NODES bytes (Line line) → ⊥
 text_not_broken bytes events line text (inl long) = omega (arith, text.short, long.0)
-text_not_broken bytes events line text (inr broken) = not_broken steps_nodes events broken.events bytes broken.rest text.each text.lines broken.breaks
+text_not_broken bytes events line text (inr broken) = not_broken STEPS_NODES events broken.events bytes broken.rest text.each text.lines broken.breaks
+
+pub steps_lawful : Lawful steps_rules
+steps_lawful = record {
+  legal = λ script text run served. empty_legal run served.1;
+  apart = λ bytes line is bad. text_not_broken bytes is.0 line is.1 bad;
+  served_apart = λ bytes text run line served bad. text_not_broken bytes served.0.events line served.0.of bad;
+}

@@ -1,3 +1,8 @@
 pub mod Streams
-pub mod Outcome
-pub mod Parts
+pub mod Outside
+pub mod Words
+pub mod Endings
+pub mod Rules
+pub mod RunCommand
+pub mod StepsCommand
+pub mod Commands

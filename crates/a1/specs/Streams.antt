@@ -20,6 +20,6 @@ abbrev pub ReadsWithCause : ℕ → ℕ → ReadFault → Type 0
 ReadsWithCause before now Failed = Rose before now
 ReadsWithCause before now Memory = ⊤
 
--- some of the bytes, from the first on, are written behind what was
+-- a front of the bytes, and not all of them, is written behind what was
 abbrev pub WritesFront : Option (List ℕ) → Option (List ℕ) → List ℕ → Type 0
-WritesFront old new bytes = (n : ℕ) × (new ≡ append_known old (take n bytes))
+WritesFront old new bytes = (n : ℕ) × (n < length bytes) × (new ≡ append_known old (take n bytes))

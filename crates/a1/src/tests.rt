@@ -4,7 +4,7 @@ mod runs;
 mod slow;
 mod steps;
 
-use crate::outcome::Outcome;
+use crate::ending::Outcome;
 use crate::top::a1;
 use a1_base::{Bin, MemSink, MemSource, NoGate, Sink, Source};
 use object_store::MemStore;

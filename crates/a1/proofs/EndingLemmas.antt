@@ -1,0 +1,33 @@
+-- What the table of endings gives, for all commands at once.
+use Rattle.std.proofs.Common.{◌≡◌, ◌⊎◌, inl, inr, ℕ, List, [], Option, Some, None, refl, sym, ap, subst, arith, append-nil}
+use Rattle.std.specs.Prelude.{IfSome, IsSome}
+use Rattle.std.specs.List.{IsDistinct}
+use Rattle.std.specs.Io.KnownBytes.{append_known}
+use Rattle.request_reader.specs.Graph.{Graph}
+use Rattle.answer_text.specs.Legal.{IsLegal}
+use Rattle.run_text.specs.Run.{empty_run}
+use Rattle.run_text.specs.declared.run.Run.{Run}
+use Rattle.a1.specs.Outside.{Outside, HasFailed, IsReadWhole, IsWritten}
+use Rattle.a1.specs.Endings.{usage_text, bad_line_text, status_of}
+use Rattle.a1.specs.Rules.{Rules}
+use Rattle.a1.specs.RunCommand.{IsLegalRun}
+
+-- no session is a legal history
+pub none_legal : (graph : Graph) (base : ℕ) → IsLegal graph base [] []
+unfolding IsDistinct
+none_legal graph base = record {
+  stamps_differ = tt;
+  stamps_above = tt;
+  stamps_apart = tt;
+  told_first = λ i j line h. absurd (omega (arith, h.1.0.1));
+  answered = tt;
+}
+
+pub empty_legal : (run : Run) → run ≡ empty_run → IsLegalRun run
+empty_legal run e = subst IsLegalRun (sym e) (none_legal _ _)
+
+-- what the rules of a command have to keep
+pub record Lawful (rules : Rules) : Type 0 where
+  pub legal : (script : Option (List ℕ)) (text : List ℕ) (run : Run) → rules.IsServed script text run → IsLegalRun run
+  pub apart : (bytes : List ℕ) (line : ℕ) → rules.IsText bytes → rules.IsMalformed bytes line → ⊥
+  pub served_apart : (bytes text : List ℕ) (run : Run) (line : ℕ) → rules.IsServed (Some bytes) text run → rules.IsMalformed bytes line → ⊥

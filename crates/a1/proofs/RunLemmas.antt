@@ -1,0 +1,27 @@
+-- Scripts that are too long, scripts of no session, and what the rules of the command `run` give.
+use Rattle.std.proofs.Common.{◌≡◌, ◌∙◌, ℕ, ◌<◌, List, [], length, Some, IsOk, Result, Ok, Err, true, sym, refl, arith}
+use Rattle.std.specs.Prelude.{nat_lt}
+use Rattle.std.specs.List.{IsDistinct}
+use Rattle.std.proofs.lemmas.Bool.Decides.{nat_tests}
+use Rattle.a1_base.specs.declared.limits.TheConstants.{SCRIPT_LIMIT}
+use Rattle.request_reader.specs.Graph.{Graph}
+use Rattle.answer_text.specs.Legal.{IsLegal}
+use Rattle.run_text.specs.Script.{script_of, asked_in}
+use Rattle.a1.specs.RunCommand.{run_rules}
+use Rattle.a1.proofs.EndingLemmas.{Lawful}
+
+-- a script that is too long breaks the grammar as a whole
+pub long_script : (bytes : List ℕ) → SCRIPT_LIMIT < length bytes → script_of bytes ≡ Err 0
+unfolding script_of
+long_script bytes h = let e : nat_lt SCRIPT_LIMIT (length bytes) ≡ true = grind (arith, nat_tests) in rw e
+
+err_not_ok : {T E : Type 0} (r : Result T E) (e : E) → r ≡ Err e → IsOk r → ⊥
+err_not_ok (Ok x) e h ok = absurd cc
+err_not_ok (Err y) e h ok = absurd cc
+
+pub run_lawful : Lawful run_rules
+run_lawful = record {
+  legal = λ script text run served. served.0.legal;
+  apart = λ bytes line is bad. err_not_ok _ line bad is;
+  served_apart = λ bytes text run line served bad. absurd (let whole = served.0.of in let no : Err line ≡ Ok (asked_in run.sessions) = sym bad ∙ whole in cc);
+}

@@ -1,6 +1,0 @@
-use Rattle.std.proofs.Common.{◌≡◌, take}
-use Rattle.a1.specs.Outcome.{answers_text}
-use Rattle.a1.proofs.steps.lines_of.Given as goal
-
-abbrev pub invariant-loop-answer : goal.invariant-loop-answer
-invariant-loop-answer l = l.text ≡ answers_text (take l.answer-index l.answers)

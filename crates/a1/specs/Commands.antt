@@ -1,0 +1,41 @@
+-- The table of endings, for every command.
+use Rattle.std.specs.Prelude.{◌≡◌, ℕ, List, [], Option, Some, None, IfSome}
+use Rattle.run_text.specs.Run.{empty_run}
+use Rattle.run_text.specs.declared.run.Run.{Run}
+use Rattle.a1.specs.Outside.{Outside, HasFailed, IsUntouched, IsReadWhole}
+use Rattle.a1.specs.Endings.{usage_text, bad_line_text, status_of, Writes}
+use Rattle.a1.specs.Rules.{Rules}
+use Rattle.a1.specs.RunCommand.{run_rules}
+use Rattle.a1.specs.StepsCommand.{steps_rules}
+use Rattle.a1.specs.declared.words.Command.{Command}
+use Rattle.a1.specs.declared.words.Command.TheVariants as command
+use Rattle.a1.specs.declared.ending.Cause.{Cause}
+use Rattle.a1.specs.declared.ending.Cause.TheVariants as cause
+use Rattle.a1.specs.declared.ending.Ending.{Ending}
+
+abbrev pub rules_of : Command → Rules
+rules_of command.Run = run_rules
+rules_of command.Steps = steps_rules
+
+-- why a command, or words that are none, may end so, with which text and which run
+abbrev pub Says : Option Command → Outside → Cause → List ℕ → Run → Type 0
+Says (Some c) o cause.Done text run = (rules_of c).IsServed o.source.before text run × IsReadWhole o.source
+Says (Some c) o cause.Unread text run = HasFailed o.source × (text ≡ []) × (run ≡ empty_run)
+Says (Some c) o (cause.Malformed line) text run =
+    IfSome o.source.before (λ bytes. (rules_of c).IsMalformed bytes line) × (text ≡ bad_line_text line) × (run ≡ empty_run)
+Says None o cause.Usage text run = (text ≡ usage_text) × (run ≡ empty_run)
+Says c o cause.Memory text run = (text ≡ []) × (run ≡ empty_run)
+Says c o why text run = ⊥
+
+-- the text of the cause is written, whole or cut short, and the store is not touched
+pub record Ends (c : Option Command) (o : Outside) (e : Ending) (run : Run) : Type 0 where
+  pub text : List ℕ
+  pub says : Says c o e.cause text run
+  pub written : Writes e.extent o.sink text
+  pub untouched : IsUntouched o.store
+
+-- some ending of the table has this status
+pub record EndsWith (c : Option Command) (o : Outside) (status : ℕ) (run : Run) : Type 0 where
+  pub ending : Ending
+  pub is : status ≡ status_of ending
+  pub ends : Ends c o ending run
