@@ -1,4 +1,5 @@
 pub mod StreamLemmas
+pub mod EndingLemmas
 pub mod RunLemmas
 pub mod StepsLemmas
-pub mod EndingLemmas
+pub mod TableLemmas

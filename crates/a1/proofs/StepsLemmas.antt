@@ -1,5 +1,5 @@
 -- Events of a farm, and what the rules of the command `steps` give.
-use Rattle.std.proofs.Common.{inl, inr, ℕ, List, [], ◌∷◌, Result, Ok, Err, sym, subst, arith}
+use Rattle.std.proofs.Common.{◌≡◌, ◌∙◌, inl, inr, ℕ, List, [], ◌∷◌, Result, Ok, Err, sym, subst, arith}
 use Rattle.std.specs.Prelude.{IfOk}
 use Rattle.std.specs.List.{All, AllByRecursion}
 use Rattle.std.proofs.lemmas.List.Elements.{All-from_recursion}
@@ -10,6 +10,13 @@ use Rattle.farm_core.specs.declared.event.Answer.{Answer}
 use Rattle.steps_text.specs.EventText.{IsEvent, IsTextOf, IsFaultOf}
 use Rattle.steps_text.specs.declared.fault.TextFault.TheVariants.{Line}
 use Rattle.steps_text.proofs.OneReading.{not_broken}
+use Rattle.run_text.specs.Run.{empty_run}
+use Rattle.run_text.specs.declared.run.Run.{Run}
+use Rattle.a1.specs.Outside.{Side}
+use Rattle.a1.specs.Endings.{Finishes}
+use Rattle.a1.specs.Rules.{Serves}
+use Rattle.a1.specs.declared.input.InputFault.{InputFault}
+use Rattle.a1.specs.declared.finishing.Served.{Served}
 use Rattle.a1.specs.StepsCommand.{steps_rules, AreAnswers}
 use Rattle.a1.specs.declared.steps_command.TheConstants.{STEPS_NODES}
 use Rattle.a1.proofs.EndingLemmas.{Lawful, empty_legal}
@@ -32,6 +39,11 @@ if_answered (Err e) items core events ran = ran
 text_not_broken : (bytes : List ℕ) (events : List Event) (line : ℕ) → IsTextOf STEPS_NODES bytes events → IsFaultOf STEPS_NODES bytes (Line line) → ⊥
 text_not_broken bytes events line text (inl long) = omega (arith, text.short, long.0)
 text_not_broken bytes events line text (inr broken) = not_broken STEPS_NODES events broken.events bytes broken.rest text.each text.lines broken.breaks
+
+-- whatever comes of a text of events, there is no run
+pub no_run : (source sink : Side (List ℕ)) (status : ℕ) (run : Run) (served : Result Served InputFault) → Serves steps_rules source served → Finishes served sink status run → run ≡ empty_run
+no_run source sink status run (Ok served) serves finishes = finishes.1 ∙ serves.0.1
+no_run source sink status run (Err why) serves finishes = finishes.4
 
 pub steps_lawful : Lawful steps_rules
 steps_lawful = record {

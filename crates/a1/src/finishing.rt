@@ -59,11 +59,7 @@ fn said_of(alloc: Global, fault: InputFault) -> (Cause, Bin)
 }
 
 /// Writes what was served, or why nothing was.
-pub fn finish<W: Sink>(
-    alloc: Global,
-    sink: &mut W,
-    served: Result<Served, InputFault>,
-) -> Outcome
+pub fn finish<W: Sink>(alloc: Global, sink: &mut W, served: Result<Served, InputFault>) -> Outcome
     ensures { Finishes served (side W.written W.faults sink.old sink.new) result.status result.run }
 {
     match served {

@@ -129,10 +129,10 @@ pub fn run_call<T: Wait, R: Source, W: Sink, S: Store, G: Gate>(
 ) -> Outcome
     ensures runs { command_of words.now ≡ Some Command.Run → EndsWith (Some Command.Run)
         (outside (side R.left R.faults source.old source.new) (side W.written W.faults sink.old sink.new)
-            (side S.items S.faults _store.old _store.new)) result.status result.run }
+        (side S.items S.faults _store.old _store.new)) result.status result.run }
     ensures others { (command_of words.now ≡ Some Command.Run → ⊥) → EndsWith None
         (outside (side R.left R.faults source.old source.new) (side W.written W.faults sink.old sink.new)
-            (side S.items S.faults _store.old _store.new)) result.status result.run }
+        (side S.items S.faults _store.old _store.new)) result.status result.run }
 {
     let Some(Command::Run) = command_of(words) else {
         return Outcome::without_run(alloc, say_usage(sink));

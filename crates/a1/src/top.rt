@@ -32,7 +32,7 @@ fn dispatch<T: Wait, R: Source, W: Sink, S: Store, G: Gate>(
 ) -> Outcome
     ensures { EndsWith (command_of words.now)
         (outside (side R.left R.faults source.old source.new) (side W.written W.faults sink.old sink.new)
-            (side S.items S.faults store.old store.new)) result.status result.run }
+        (side S.items S.faults store.old store.new)) result.status result.run }
 {
     match command_of(words) {
         Some(Command::Run) => run_call(rt, alloc, words, source, sink, store, gate),
@@ -61,7 +61,7 @@ pub fn a1<T: Wait, R: Source, W: Sink, S: Store, G: Gate>(
     // It ends in one of the ways of the table.
     ensures ends { EndsWith (command_of words.now)
         (outside (side R.left R.faults source.old source.new) (side W.written W.faults sink.old sink.new)
-            (side S.items S.faults store.old store.new)) result.status result.run }
+        (side S.items S.faults store.old store.new)) result.status result.run }
 
     // What the command serves is written whole, and its run is left; or there is no run.
     ensures served { (c : Command) → command_of words.now ≡ Some c → result.status ≡ 0 →
