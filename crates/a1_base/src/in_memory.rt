@@ -122,7 +122,8 @@ impl Sink for MemSink {
 
         // It takes whole pieces, and fails where it was told to.
         ensures count { IfOk result (λ n. n ≡ length piece.now) }
-        ensures fails { IsTrue (fails_at (failing_writes self.old) (next_number (writes_made self.old))) → IsTrue (is_err result) }
+        ensures fails { IsTrue (fails_at (failing_writes self.old) (next_number (writes_made self.old)))
+            → IsTrue (is_err result) }
         ensures writes { writes_made self.new ≡ next_number (writes_made self.old) }
         ensures told { failing_writes self.new ≡ failing_writes self.old }
     {

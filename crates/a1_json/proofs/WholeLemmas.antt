@@ -25,7 +25,8 @@ integer_whole : (z : ℤ) → is_float (of_integer z) ≡ false
 integer_whole (pos n) = refl
 integer_whole (negsuc n) = refl
 
-put_whole : (name : List ℕ) (d : Data) (ms : Members) → has_float d ≡ false → members_have_float ms ≡ false → members_have_float (put name d ms) ≡ false
+-- an object without floats has none behind a put of a value without floats
+pub put_whole : (name : List ℕ) (d : Data) (ms : Members) → has_float d ≡ false → members_have_float ms ≡ false → members_have_float (put name d ms) ≡ false
 put_whole name d no_members none rest = rw none refl
 put_whole name d (member other e ms) none rest = at (slice_cmp nat_cmp name other) (put_whole name d ms none both.1)
   where

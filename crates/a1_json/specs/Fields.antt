@@ -47,5 +47,5 @@ text_at (Json-F.List js) = None
 text_at (Json-F.Members ms) = None
 
 -- the text, where it is one
-abbrev pub text_of : Json → Option (List ℕ)
-text_of json = text_at (out-Json json)
+abbrev pub as_text : Json → Option (List ℕ)
+as_text json = text_at (out-Json json)

@@ -1,6 +1,6 @@
 //! Looking into a tree.
 ghost use Rattle.std.specs.Prelude.{◌≡◌, option_map};
-ghost use Rattle.a1_json.specs.Fields.{named_in, member_of, item_of, text_of};
+ghost use Rattle.a1_json.specs.Fields.{named_in, member_of, item_of, as_text};
 
 use crate::Json;
 use a1_base::Txt;
@@ -49,7 +49,7 @@ impl Json {
 
     /// The text, where it is one.
     pub fn as_text(&self) -> Option<&str>
-        ensures { option_map (λ t. t.now) result ≡ text_of self.now }
+        ensures { option_map (λ t. t.now) result ≡ as_text self.now }
     {
         match self {
             Json::Text(text) => Some(text.as_text()),

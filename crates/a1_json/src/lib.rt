@@ -1,7 +1,7 @@
 //! JSON values with whole numbers (RFC 8259): read from a text, looked into, and written as one.
 //!
-//! A text stands for a tree, or for the reason why it has none; what is JSON is what the library `serde_json` reads. The
-//! layer knows nothing of requests or replies.
+//! A text stands for a tree, or for the reason why it has none; what is JSON is what the library `serde_json` reads.
+//! The layer knows nothing of requests or replies.
 #![tactic(auto)]
 
 mod fields;
@@ -13,4 +13,4 @@ mod writing;
 
 pub use reading::read;
 pub use tree::{Json, JsonFault};
-pub use writing::write;
+pub use writing::{put_member, write};

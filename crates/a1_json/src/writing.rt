@@ -1,6 +1,6 @@
 //! From a tree to its text.
-ghost use Rattle.std.specs.Prelude.{◌≡◌, IfOk, map};
-ghost use Rattle.serde_json.specs.Data.{no_members};
+ghost use Rattle.std.specs.Prelude.{◌≡◌, IfOk, OnOk, OnErr, map};
+ghost use Rattle.serde_json.specs.Data.{no_members, put};
 ghost use Rattle.serde_json.specs.Written.{compact_text};
 ghost use Rattle.serde_json.specs.View.{view, members_view};
 ghost use Rattle.a1_json.specs.Written.{data_of, put_all};
@@ -54,9 +54,23 @@ fn map_of(alloc: Global, members: &[(Txt, Json)]) -> Result<Map<String, Value>, 
 {
     let mut object = Map::new(alloc);
     for member in members {
-        let name = String::from_str(alloc, member.0.as_text())?;
-        let value = value_of(alloc, &member.1)?;
-        object.insert(name, value)?;
+        put_member(alloc, &mut object, &member.0, value_of(alloc, &member.1)?)?;
     }
     Ok(object)
+}
+
+/// Puts a member into an object, in the place of one of its name where there is one. The error is want of memory, and
+/// leaves the object as it was.
+pub fn put_member(
+    alloc: Global,
+    object: &mut Map<String, Value>,
+    name: &Txt,
+    value: Value,
+) -> Result<(), AllocError>
+    ensures ok { OnOk result
+        (members_view object.new.entries ≡ put name.now (view value) (members_view object.old.entries)) }
+    ensures err { OnErr result (object.new.entries ≡ object.old.entries) }
+{
+    object.insert(String::from_str(alloc, name.as_text())?, value)?;
+    Ok(())
 }

@@ -41,7 +41,9 @@ pub record IsLegal (graph : Graph) (base : ℕ) (sessions : List Transcript) (K 
   pub stamps_above : AllByRecursion (λ stamp. base < stamp) (ok_stamps (lines_of sessions))
   pub stamps_apart : AllByRecursion (λ stamp. ¬ Contains K stamp) (ok_stamps (lines_of sessions))
   -- each line comes after all that its session had been told
-  pub told_first : (i j : ℕ) (line : Line) → IsLineAt sessions i j line → ComesAfter base (IsTold sessions i j) line.reply
-  -- each reply is one that its line may have: a commit has an effect on the graph just below its stamp, and what prints
-  -- a snapshot is the answer or the refusal there
-  pub answered : AllByRecursion (λ line. IsReplyTo (graph_at graph (lines_of sessions)) (asked line) line.reply) (lines_of sessions)
+  pub told_first : (i j : ℕ) (line : Line) → IsLineAt sessions i j line
+      → ComesAfter base (IsTold sessions i j) line.reply
+  -- each reply is one that its line may have: a commit has an effect on the graph just below its stamp, and what
+  -- prints a snapshot is the answer or the refusal there
+  pub answered : AllByRecursion (λ line. IsReplyTo (graph_at graph (lines_of sessions)) (asked line) line.reply)
+      (lines_of sessions)

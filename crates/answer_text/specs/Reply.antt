@@ -60,8 +60,11 @@ rows_data rows = items_of (map row_data rows)
 -- a reply as JSON
 abbrev pub reply_data : Reply → Data
 reply_data (Ok stamp) = object (member (codes "ok") (number (unsigned stamp)) no_members)
-reply_data (Rows at rows) = object (member (codes "at") (number (unsigned at)) (member (codes "rows") (array (rows_data rows)) no_members))
-reply_data (Refused at refusal) = object (member (codes "at") (number (unsigned at)) (member (codes "refused") (string (word_text refusal.word)) no_members))
+reply_data (Rows at rows) =
+    object (member (codes "at") (number (unsigned at)) (member (codes "rows") (array (rows_data rows)) no_members))
+reply_data (Refused at refusal) =
+    object (member (codes "at") (number (unsigned at))
+    (member (codes "refused") (string (word_text refusal.word)) no_members))
 reply_data (Bad word) = object (member (codes "bad") (string (bad_text word)) no_members)
 reply_data Memory = object (member (codes "memory") (boolean true) no_members)
 

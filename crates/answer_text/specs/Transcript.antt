@@ -17,11 +17,11 @@ use Rattle.answer_text.specs.declared.transcript.Transcript.{Transcript}
 -- ---- text
 
 -- `S REPLY` and the end of the line
-abbrev pub line_text : ℕ → Line → List ℕ
-line_text session line = decimal session ++ (32 ∷ reply_text line.reply) ++ 10 ∷ []
+abbrev pub reply_line : ℕ → Line → List ℕ
+reply_line session line = decimal session ++ (32 ∷ reply_text line.reply) ++ 10 ∷ []
 
 abbrev pub session_text : Transcript → List ℕ
-session_text t = flat_map (line_text t.session) t.lines
+session_text t = flat_map (reply_line t.session) t.lines
 
 -- what is printed: session by session, line by line
 abbrev pub text_of : List Transcript → List ℕ
@@ -35,7 +35,8 @@ lines_of sessions = flat_map (λ t. t.lines) sessions
 
 -- the line of session i that has j lines before it
 abbrev pub IsLineAt : List Transcript → ℕ → ℕ → Line → Type 0
-IsLineAt sessions i j line = (t : Transcript) × (Contains sessions t × (t.session ≡ i) × (slice_get t.lines j ≡ Some line))
+IsLineAt sessions i j line =
+    (t : Transcript) × (Contains sessions t × (t.session ≡ i) × (slice_get t.lines j ≡ Some line))
 
 -- what a line asks for
 abbrev pub asked : Line → Result Request BadWord
@@ -92,4 +93,5 @@ ok_stamps lines = filter_map (λ line. ok_stamp line.reply) lines
 -- the stamps that session i was told before its line that has j lines before it
 pub data IsTold (sessions : List Transcript) : ℕ → ℕ → ℕ → Type 0 where
   -- an own line that stands before it printed the stamp
-  own : (i j k stamp : ℕ) (line : Line) → k < j → IsLineAt sessions i k line → printed line.reply ≡ Some stamp → IsTold sessions i j stamp
+  own : (i j k stamp : ℕ) (line : Line) → k < j → IsLineAt sessions i k line → printed line.reply ≡ Some stamp
+      → IsTold sessions i j stamp

@@ -6,6 +6,7 @@ ghost use Rattle.answer_text.specs.Reply.{value_data, row_members, row_data, row
 
 use crate::Reply;
 use a1_base::{Bin, Memory, Txt};
+use a1_json::put_member;
 use a1_value::Value;
 use request_reader::{BadWord, Row, Word};
 use serde_json::{Map, Value as Json, json};
@@ -27,9 +28,7 @@ fn members_json(alloc: Global, members: &[(Txt, Value)]) -> Result<Map<String, J
 {
     let mut map = Map::new(alloc);
     for member in members {
-        let name = String::from_str(alloc, member.0.as_text())?;
-        let value = value_json(alloc, &member.1)?;
-        map.insert(name, value)?;
+        put_member(alloc, &mut map, &member.0, value_json(alloc, &member.1)?)?;
     }
     Ok(map)
 }

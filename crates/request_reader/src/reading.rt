@@ -1,7 +1,7 @@
 //! Reading a line as a request, over its JSON tree.
 ghost use Rattle.std.specs.Prelude.{◌≡◌, option_map, IfOk};
 ghost use Rattle.a1_json.specs.Tree.{json_of};
-ghost use Rattle.request_reader.specs.Request.{is_text, tree_in, name_put, name_in_do, name_asked, name_in_ask, request_of, ReadsAs};
+ghost use Rattle.request_reader.specs.Request.{is_text, tree_in, name_put, name_in_do, name_asked, name_in_ask, request_of, ReadsAsRequest};
 
 use crate::request::{BadWord, NAME_TYPE, NAMES_GRAPH, Request, RequestFault};
 use a1_base::{KEY_LIMIT, Memory, Txt};
@@ -77,7 +77,7 @@ fn tree_of_line(alloc: Global, line: &[u8]) -> Result<Option<Json>, Memory>
 /// equal name replaces do not matter (RFC 8259). `Bad(NotBuilt)` comes exactly where it has neither form.
 #[tactic(auto, unfolding(crate::specs::Request::request_of))]
 pub fn read(alloc: Global, line: &[u8]) -> Result<Request, RequestFault>
-    ensures { ReadsAs result (request_of line.now) }
+    ensures { ReadsAsRequest result (request_of line.now) }
 {
     let tree = match tree_of_line(alloc, line) {
         Ok(Some(tree)) => tree,

@@ -11,7 +11,7 @@ pub const NAME_TYPE: &str = "name";
 /// What a line asks for.
 #[derive(Drop)]
 pub enum Request {
-    /// `{"do":[{"put":{"graph":"sys/names","type":"name","v":{"id":X}}}]}`: a name of at most 256 bytes is put.
+    /// `{"do":[{"put":{"graph":"sys/names","type":"name","v":{"id":X}}}]}`: a name of at most `KEY_LIMIT` bytes is put.
     Put(Txt),
     /// `{"ask":{"_type":"name","id":X},"graph":"sys/names"}`: the vertex of this name is asked for.
     Ask(Txt),

@@ -8,11 +8,11 @@ abbrev pub in_first : List ℕ → ℕ × List ℕ
 in_first request = (1, request)
 
 -- entries before those of the rest
-abbrev pub joined : List (ℕ × List ℕ) → Result (List (ℕ × List ℕ)) ℕ → Result (List (ℕ × List ℕ)) ℕ
-joined before (Ok entries) = Ok (before ++ entries)
-joined before (Err line) = Err line
+abbrev pub with_entries : List (ℕ × List ℕ) → Result (List (ℕ × List ℕ)) ℕ → Result (List (ℕ × List ℕ)) ℕ
+with_entries before (Ok entries) = Ok (before ++ entries)
+with_entries before (Err line) = Err line
 
 -- a fault names the first line that breaks the grammar
-abbrev pub IsFaultOf : ScriptFault → Result (List (ℕ × List ℕ)) ℕ → Type 0
-IsFaultOf (Line n) entries = entries ≡ Err n
-IsFaultOf Memory entries = ⊤
+abbrev pub IsEntriesFault : ScriptFault → Result (List (ℕ × List ℕ)) ℕ → Type 0
+IsEntriesFault (Line n) entries = entries ≡ Err n
+IsEntriesFault Memory entries = ⊤

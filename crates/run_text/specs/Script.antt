@@ -100,7 +100,7 @@ abbrev pub IsOf : List Transcript → List ℕ → Type 0
 IsOf sessions script = script_of script ≡ Ok (asked_in sessions)
 
 -- a reading gives this, or wants memory
-abbrev pub ReadsAs : Result (List (ℕ × List (List ℕ))) ScriptFault → Result (List (ℕ × List (List ℕ))) ℕ → Type 0
-ReadsAs (Ok sessions) wanted = wanted ≡ Ok sessions
-ReadsAs (Err (Line n)) wanted = wanted ≡ Err n
-ReadsAs (Err Memory) wanted = ⊤
+abbrev pub ReadsAsScript : Result (List (ℕ × List (List ℕ))) ScriptFault → Result (List (ℕ × List (List ℕ))) ℕ → Type 0
+ReadsAsScript (Ok sessions) wanted = wanted ≡ Ok sessions
+ReadsAsScript (Err (Line n)) wanted = wanted ≡ Err n
+ReadsAsScript (Err Memory) wanted = ⊤

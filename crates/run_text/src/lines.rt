@@ -2,7 +2,7 @@
 ghost use Rattle.std.specs.Prelude.{◌≡◌, ◌<◌, ◌≤◌, ◌+◌, ◌∷◌, Ok, List, ℕ, Result, length, take, drop, map, IfOk, OnOk, IfErr, option_map, option_and_then};
 ghost use Rattle.run_text.specs.Script.{lines_in, numbered, of_session, entry_in, with_line, entries_from};
 ghost use Rattle.a1_base.specs.declared.limits.TheConstants.{SCRIPT_LIMIT};
-ghost use Rattle.run_text.specs.Reading.{in_first, joined, IsFaultOf};
+ghost use Rattle.run_text.specs.Reading.{in_first, with_entries, IsEntriesFault};
 
 use crate::ScriptFault;
 use a1_base::{Bin, LINE_LIMIT};
@@ -48,7 +48,7 @@ fn request_in(line: &[u8]) -> Option<&[u8]>
 }
 
 // Adds the request of a line.
-#[tactic(auto, using(crate::proofs::ScriptLemmas::joined_entry))]
+#[tactic(auto, using(crate::proofs::ScriptLemmas::entry_behind))]
 fn add_line(
     alloc: Global,
     requests: &mut Vec<Bin>,
@@ -56,9 +56,11 @@ fn add_line(
     line: &[u8],
 ) -> Result<(), ScriptFault>
     ensures ok { OnOk result ((rest : Result (List (ℕ × List ℕ)) ℕ) →
-        joined (map in_first requests.old.items) (with_line number line.now rest) ≡ joined (map in_first requests.new.items) rest) }
+        with_entries (map in_first requests.old.items) (with_line number line.now rest)
+        ≡ with_entries (map in_first requests.new.items) rest) }
     ensures one { length requests.new.items ≤ length requests.old.items + 1 }
-    ensures fault { IfErr result (λ e. (rest : Result (List (ℕ × List ℕ)) ℕ) → IsFaultOf e (with_line number line.now rest)) }
+    ensures fault { IfErr result (λ e. (rest : Result (List (ℕ × List ℕ)) ℕ) →
+        IsEntriesFault e (with_line number line.now rest)) }
 {
     if line.is_empty() {
         return Ok(());
@@ -78,7 +80,7 @@ pub fn read_requests(alloc: Global, bytes: &[u8]) -> Result<Vec<Bin>, ScriptFaul
     requires { length bytes.now ≤ SCRIPT_LIMIT }
     ensures ok { IfOk result (λ requests. entries_from 1 (lines_in bytes.now) ≡ Ok (map in_first requests.items)) }
     ensures few { IfOk result (λ requests. length requests.items ≤ length bytes.now) }
-    ensures fault { IfErr result (λ e. IsFaultOf e (entries_from 1 (lines_in bytes.now))) }
+    ensures fault { IfErr result (λ e. IsEntriesFault e (entries_from 1 (lines_in bytes.now))) }
 {
     let mut requests = Vec::new(alloc);
     let mut at = 0;

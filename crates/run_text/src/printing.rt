@@ -1,6 +1,6 @@
 //! The text of a transcript.
 ghost use Rattle.std.specs.Prelude.{◌≡◌, ◌++◌, IfOk, OnOk};
-ghost use Rattle.answer_text.specs.Transcript.{line_text, session_text, text_of};
+ghost use Rattle.answer_text.specs.Transcript.{reply_line, session_text, text_of};
 
 use a1_base::{Bin, Memory};
 use answer_text::{Line, Transcript, text};
@@ -8,7 +8,7 @@ use std::alloc::Global;
 
 // Puts a line's text at the end.
 fn print_line(alloc: Global, out: &mut Bin, session: u32, line: &Line) -> Result<(), Memory>
-    ensures { OnOk result (out.new ≡ out.old ++ line_text session line.now) }
+    ensures { OnOk result (out.new ≡ out.old ++ reply_line session line.now) }
 {
     let number = session.to_string(alloc)?;
     let reply = text(alloc, &line.reply)?;

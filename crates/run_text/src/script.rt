@@ -1,6 +1,6 @@
 //! Scripts.
 ghost use Rattle.std.specs.Prelude.{◌≡◌, ◌≤◌, length, IfOk, map};
-ghost use Rattle.run_text.specs.Script.{script_of, session_numbers, request_count, ReadsAs};
+ghost use Rattle.run_text.specs.Script.{script_of, session_numbers, request_count, ReadsAsScript};
 
 use crate::lines::read_requests;
 use a1_base::{Bin, SCRIPT_LIMIT};
@@ -50,11 +50,11 @@ impl From<AllocError> for ScriptFault {
     }
 }
 
-/// Reads a script of at most 33,554,432 bytes: lines that end with LF, each a session number in decimal, a blank and
-/// a request; lines of no bytes are skipped and counted.
+/// Reads a script of at most `SCRIPT_LIMIT` bytes: lines that end with LF, each a session number in decimal, a blank
+/// and a request; lines of no bytes are skipped and counted.
 #[tactic(auto, using(crate::proofs::ScriptLemmas::first_alone), unfolding(crate::specs::Script::script_of))]
 pub fn read(alloc: Global, bytes: &[u8]) -> Result<Script, ScriptFault>
-    ensures script { ReadsAs result (script_of bytes.now) }
+    ensures script { ReadsAsScript result (script_of bytes.now) }
     ensures few { IfOk result (λ script. request_count script ≤ length bytes.now) }
     ensures sessions { IfOk result (λ script. length script ≤ length session_numbers) }
 {
