@@ -29,7 +29,7 @@ lawful command.Steps = steps_lawful
 -- ---- from what a command serves and writes to the table
 
 module _ (o : Outside) (status : ℕ) (run : Run) (rests : IsUntouched o.store) where
-  told : (c : Option Command) (why : Cause) (text : List ℕ) → Says c o why text run → Tells o.sink why text status → EndsWith c o status run
+  told : (c : Option Command) (why : Cause) (text : List ℕ) → Says c o.source why text run → Tells o.sink why text status → EndsWith c o status run
   told c why text says (extent, is, wrote) = record {
     ending = record { cause = why; extent = extent };
     is = is;
@@ -52,20 +52,8 @@ pub ends_beside : (c : Option Command) (source sink : Side (List ℕ)) (store : 
 ends_beside c source sink store status run rests h = record {
   ending = h.ending;
   is = h.is;
-  ends = record { text = h.ends.text; says = says c h.ending.cause h.ends.says; written = h.ends.written; untouched = rests };
+  ends = record { text = h.ends.text; says = h.ends.says; written = h.ends.written; untouched = rests };
 }
-  where
-    says : (c : Option Command) (why : Cause) → Says c (outside source sink no_store) why h.ends.text run → Says c (outside source sink store) why h.ends.text run
-    says (Some c) cause.Done s = s
-    says (Some c) cause.Unread s = s
-    says (Some c) (cause.Malformed line) s = s
-    says (Some c) cause.Usage s = s
-    says (Some c) cause.Memory s = s
-    says None cause.Done s = s
-    says None cause.Unread s = s
-    says None (cause.Malformed line) s = s
-    says None cause.Usage s = s
-    says None cause.Memory s = s
 
 -- ---- from the table to the clauses of the top call
 
@@ -78,7 +66,7 @@ module _ (o : Outside) (run : Run) where
   abbrev pub IsServedBy : Option Command → Type 0
   IsServedBy c = (d : Command) × (text : List ℕ) × (c ≡ Some d) × (rules_of d).IsServed o.source.before text run
 
-  by_cause : (c : Option Command) (why : Cause) (text : List ℕ) → Says c o why text run → IsServedBy c ⊎ (run ≡ empty_run)
+  by_cause : (c : Option Command) (why : Cause) (text : List ℕ) → Says c o.source why text run → IsServedBy c ⊎ (run ≡ empty_run)
   by_cause (Some c) cause.Done text says = inl (c, text, refl, says.0)
   by_cause (Some c) cause.Usage text says = absurd says
   by_cause (Some c) cause.Unread text says = inr says.2
@@ -98,7 +86,7 @@ module _ (o : Outside) (run : Run) where
 
   -- an ending whose text was written whole
   abbrev IsWhole : Option Command → Cause → ℕ → Type 0
-  IsWhole c why status = (text : List ℕ) × Says c o why text run × IsWritten o.sink text × (status ≡ cause_status why)
+  IsWhole c why status = (text : List ℕ) × Says c o.source why text run × IsWritten o.sink text × (status ≡ cause_status why)
 
   abbrev IsEnded : Option Command → Cause → ℕ → Type 0
   IsEnded c why status = IsWhole c why status ⊎ ((status ≡ 4) × HasFailed o.sink)
@@ -120,10 +108,7 @@ module _ (o : Outside) (run : Run) where
       by : (c : Option Command) (why : Cause) → IsWhole c why 0 → (s : IsServedBy c) × IsWritten o.sink s.1 × IsReadWhole o.source
       by (Some c) cause.Done w = ((c, w.0, refl, w.1.0), w.2, w.1.1)
       by None cause.Done w = absurd w.1
-      by c cause.Usage w = absurd (omega (arith, w.3))
-      by c cause.Unread w = absurd (omega (arith, w.3))
-      by c (cause.Malformed line) w = absurd (omega (arith, w.3))
-      by c cause.Memory w = absurd (omega (arith, w.3))
+      by c why w = absurd (omega (arith, w.3))
 
   pub misused : (c : Option Command) (status : ℕ) → EndsWith c o status run → status ≡ 2 → (c ≡ None) × IsWritten o.sink usage_text × (run ≡ empty_run)
   misused c status h is = by c h.ending.cause (whole_at c status 2 h is (λ e. omega arith))
@@ -131,10 +116,7 @@ module _ (o : Outside) (run : Run) where
       by : (c : Option Command) (why : Cause) → IsWhole c why 2 → (c ≡ None) × IsWritten o.sink usage_text × (run ≡ empty_run)
       by None cause.Usage w = (refl, subst (IsWritten o.sink) w.1.0 w.2, w.1.1)
       by (Some c) cause.Usage w = absurd w.1
-      by c cause.Done w = absurd (omega (arith, w.3))
-      by c cause.Unread w = absurd (omega (arith, w.3))
-      by c (cause.Malformed line) w = absurd (omega (arith, w.3))
-      by c cause.Memory w = absurd (omega (arith, w.3))
+      by c why w = absurd (omega (arith, w.3))
 
   pub unread : (c : Option Command) (status : ℕ) → EndsWith c o status run → status ≡ 3 → HasFailed o.source × (o.sink.after ≡ o.sink.before) × (run ≡ empty_run)
   unread c status h is = by c h.ending.cause (whole_at c status 3 h is (λ e. omega arith))
@@ -142,10 +124,7 @@ module _ (o : Outside) (run : Run) where
       by : (c : Option Command) (why : Cause) → IsWhole c why 3 → HasFailed o.source × (o.sink.after ≡ o.sink.before) × (run ≡ empty_run)
       by (Some c) cause.Unread w = (w.1.0, subst (IsWritten o.sink) w.1.1 w.2 ∙ append_none o.sink.before, w.1.2)
       by None cause.Unread w = absurd w.1
-      by c cause.Done w = absurd (omega (arith, w.3))
-      by c cause.Usage w = absurd (omega (arith, w.3))
-      by c (cause.Malformed line) w = absurd (omega (arith, w.3))
-      by c cause.Memory w = absurd (omega (arith, w.3))
+      by c why w = absurd (omega (arith, w.3))
 
   abbrev pub IsLineSaid : Option Command → Type 0
   IsLineSaid c = (d : Command) × (line : ℕ) × (c ≡ Some d) × IfSome o.source.before (λ bytes. (rules_of d).IsMalformed bytes line) × IsWritten o.sink (bad_line_text line)
@@ -156,10 +135,7 @@ module _ (o : Outside) (run : Run) where
       by : (c : Option Command) (why : Cause) → IsWhole c why 8 → IsLineSaid c × (run ≡ empty_run)
       by (Some c) (cause.Malformed line) w = ((c, line, refl, w.1.0, subst (IsWritten o.sink) w.1.1 w.2), w.1.2)
       by None (cause.Malformed line) w = absurd w.1
-      by c cause.Done w = absurd (omega (arith, w.3))
-      by c cause.Usage w = absurd (omega (arith, w.3))
-      by c cause.Unread w = absurd (omega (arith, w.3))
-      by c cause.Memory w = absurd (omega (arith, w.3))
+      by c why w = absurd (omega (arith, w.3))
 
   -- the same of the command that the words name
   pub served : (d : Command) (status : ℕ) → EndsWith (Some d) o status run → status ≡ 0 → (text : List ℕ) × (rules_of d).IsServed o.source.before text run × IsWritten o.sink text

@@ -2,7 +2,7 @@
 use Rattle.std.specs.Prelude.{◌≡◌, ℕ, List, [], Option, Some, None, IfSome}
 use Rattle.run_text.specs.Run.{empty_run}
 use Rattle.run_text.specs.declared.run.Run.{Run}
-use Rattle.a1.specs.Outside.{Outside, HasFailed, IsUntouched, IsReadWhole}
+use Rattle.a1.specs.Outside.{Side, Outside, HasFailed, IsUntouched, IsReadWhole}
 use Rattle.a1.specs.Endings.{usage_text, bad_line_text, status_of, Writes}
 use Rattle.a1.specs.Rules.{Rules}
 use Rattle.a1.specs.RunCommand.{run_rules}
@@ -17,20 +17,20 @@ abbrev pub rules_of : Command → Rules
 rules_of command.Run = run_rules
 rules_of command.Steps = steps_rules
 
--- why a command, or words that are none, may end so, with which text and which run
-abbrev pub Says : Option Command → Outside → Cause → List ℕ → Run → Type 0
-Says (Some c) o cause.Done text run = (rules_of c).IsServed o.source.before text run × IsReadWhole o.source
-Says (Some c) o cause.Unread text run = HasFailed o.source × (text ≡ []) × (run ≡ empty_run)
-Says (Some c) o (cause.Malformed line) text run =
-    IfSome o.source.before (λ bytes. (rules_of c).IsMalformed bytes line) × (text ≡ bad_line_text line) × (run ≡ empty_run)
-Says None o cause.Usage text run = (text ≡ usage_text) × (run ≡ empty_run)
-Says c o cause.Memory text run = (text ≡ []) × (run ≡ empty_run)
-Says c o why text run = ⊥
+-- why a command, or words that are none, may end so over this source, with which text and which run
+abbrev pub Says : Option Command → Side (List ℕ) → Cause → List ℕ → Run → Type 0
+Says (Some c) source cause.Done text run = (rules_of c).IsServed source.before text run × IsReadWhole source
+Says (Some c) source cause.Unread text run = HasFailed source × (text ≡ []) × (run ≡ empty_run)
+Says (Some c) source (cause.Malformed line) text run =
+    IfSome source.before (λ bytes. (rules_of c).IsMalformed bytes line) × (text ≡ bad_line_text line) × (run ≡ empty_run)
+Says None source cause.Usage text run = (text ≡ usage_text) × (run ≡ empty_run)
+Says c source cause.Memory text run = (text ≡ []) × (run ≡ empty_run)
+Says c source why text run = ⊥
 
 -- the text of the cause is written, whole or cut short, and the store is not touched
 pub record Ends (c : Option Command) (o : Outside) (e : Ending) (run : Run) : Type 0 where
   pub text : List ℕ
-  pub says : Says c o e.cause text run
+  pub says : Says c o.source e.cause text run
   pub written : Writes e.extent o.sink text
   pub untouched : IsUntouched o.store
 
