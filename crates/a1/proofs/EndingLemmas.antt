@@ -1,14 +1,11 @@
 -- What the table of endings gives, for all commands at once.
-use Rattle.std.proofs.Common.{◌≡◌, ◌⊎◌, inl, inr, ℕ, List, [], Option, Some, None, refl, sym, ap, subst, arith, append-nil}
-use Rattle.std.specs.Prelude.{IfSome, IsSome}
+use Rattle.std.proofs.Common.{◌≡◌, ℕ, List, [], Some, sym, subst, arith}
 use Rattle.std.specs.List.{IsDistinct}
-use Rattle.std.specs.Io.KnownBytes.{append_known}
 use Rattle.request_reader.specs.Graph.{Graph}
 use Rattle.answer_text.specs.Legal.{IsLegal}
 use Rattle.run_text.specs.Run.{empty_run}
 use Rattle.run_text.specs.declared.run.Run.{Run}
-use Rattle.a1.specs.Outside.{Outside, HasFailed, IsReadWhole, IsWritten}
-use Rattle.a1.specs.Endings.{usage_text, bad_line_text, status_of}
+use Rattle.a1.specs.Outside.{Side}
 use Rattle.a1.specs.Rules.{Rules}
 use Rattle.a1.specs.RunCommand.{IsLegalRun}
 
@@ -28,6 +25,6 @@ empty_legal run e = subst IsLegalRun (sym e) (none_legal _ _)
 
 -- what the rules of a command have to keep
 pub record Lawful (rules : Rules) : Type 0 where
-  pub legal : (script : Option (List ℕ)) (text : List ℕ) (run : Run) → rules.IsServed script text run → IsLegalRun run
+  pub legal : (source : Side (List ℕ)) (text : List ℕ) (run : Run) → rules.IsServed source text run → IsLegalRun run
   pub apart : (bytes : List ℕ) (line : ℕ) → rules.IsText bytes → rules.IsMalformed bytes line → ⊥
-  pub served_apart : (bytes text : List ℕ) (run : Run) (line : ℕ) → rules.IsServed (Some bytes) text run → rules.IsMalformed bytes line → ⊥
+  pub served_apart : (source : Side (List ℕ)) (bytes text : List ℕ) (run : Run) (line : ℕ) → source.before ≡ Some bytes → rules.IsServed source text run → rules.IsMalformed bytes line → ⊥

@@ -1,12 +1,9 @@
 -- Scripts that are too long, scripts of no session, and what the rules of the command `run` give.
-use Rattle.std.proofs.Common.{◌≡◌, ◌∙◌, ℕ, ◌<◌, List, [], length, Some, IsOk, Result, Ok, Err, true, sym, refl, arith}
-use Rattle.std.specs.Prelude.{nat_lt}
-use Rattle.std.specs.List.{IsDistinct}
+use Rattle.std.proofs.Common.{◌≡◌, ◌∙◌, ℕ, ◌<◌, List, length, IsOk, Result, Ok, Err, true, sym, subst, arith}
+use Rattle.std.specs.Prelude.{nat_lt, IfSome}
 use Rattle.std.proofs.lemmas.Bool.Decides.{nat_tests}
 use Rattle.a1_base.specs.declared.limits.TheConstants.{SCRIPT_LIMIT}
-use Rattle.request_reader.specs.Graph.{Graph}
-use Rattle.answer_text.specs.Legal.{IsLegal}
-use Rattle.run_text.specs.Script.{script_of, asked_in}
+use Rattle.run_text.specs.Script.{script_of, asked_in, IsOf}
 use Rattle.a1.specs.RunCommand.{run_rules}
 use Rattle.a1.proofs.EndingLemmas.{Lawful}
 
@@ -21,7 +18,9 @@ err_not_ok (Err y) e h ok = absurd cc
 
 pub run_lawful : Lawful run_rules
 run_lawful = record {
-  legal = λ script text run served. served.0.legal;
+  legal = λ source text run served. served.0.legal;
   apart = λ bytes line is bad. err_not_ok _ line bad is;
-  served_apart = λ bytes text run line served bad. absurd (let whole = served.0.of in let no : Err line ≡ Ok (asked_in run.sessions) = sym bad ∙ whole in cc);
+  served_apart = λ source bytes text run line holds served bad.
+      let whole : IsOf run.sessions bytes = subst (λ s. IfSome s (IsOf run.sessions)) holds served.0.of in
+      absurd (let no : Err line ≡ Ok (asked_in run.sessions) = sym bad ∙ whole in cc);
 }

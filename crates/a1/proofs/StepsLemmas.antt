@@ -1,6 +1,6 @@
 -- Events of a farm, and what the rules of the command `steps` give.
 use Rattle.std.proofs.Common.{◌≡◌, ◌∙◌, inl, inr, ℕ, List, [], ◌∷◌, Result, Ok, Err, sym, subst, arith}
-use Rattle.std.specs.Prelude.{IfOk}
+use Rattle.std.specs.Prelude.{IfOk, IfSome}
 use Rattle.std.specs.List.{All, AllByRecursion}
 use Rattle.std.proofs.lemmas.List.Elements.{All-from_recursion}
 use Rattle.farm_core.specs.Machine.{State, fresh, InRange, Runs}
@@ -42,12 +42,14 @@ text_not_broken bytes events line text (inr broken) = not_broken STEPS_NODES eve
 
 -- whatever comes of a text of events, there is no run
 pub no_run : (source sink : Side (List ℕ)) (status : ℕ) (run : Run) (served : Result Served InputFault) → Serves steps_rules source served → Finishes served sink status run → run ≡ empty_run
-no_run source sink status run (Ok served) serves finishes = finishes.1 ∙ serves.0.1
+no_run source sink status run (Ok served) serves finishes = finishes.1 ∙ serves.1
 no_run source sink status run (Err why) serves finishes = finishes.4
 
 pub steps_lawful : Lawful steps_rules
 steps_lawful = record {
-  legal = λ script text run served. empty_legal run served.1;
+  legal = λ source text run served. empty_legal run served.1;
   apart = λ bytes line is bad. text_not_broken bytes is.0 line is.1 bad;
-  served_apart = λ bytes text run line served bad. text_not_broken bytes served.0.events line served.0.of bad;
+  served_apart = λ source bytes text run line holds served bad.
+      let events = served.0.events in
+      text_not_broken bytes events line (subst (λ s. IfSome s (λ b. IsTextOf STEPS_NODES b events)) holds served.0.of) bad;
 }

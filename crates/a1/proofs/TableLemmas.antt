@@ -4,11 +4,11 @@ use Rattle.std.specs.Prelude.{IfSome}
 use Rattle.std.specs.Io.KnownBytes.{append_known}
 use Rattle.run_text.specs.Run.{empty_run}
 use Rattle.run_text.specs.declared.run.Run.{Run}
-use Rattle.a1.specs.Outside.{Side, Outside, outside, no_store, HasFailed, IsUntouched, IsReadWhole, IsWritten}
-use Rattle.a1.specs.Endings.{usage_text, bad_line_text, cause_status, status_in, Writes, Tells, SaysFault, Finishes}
+use Rattle.a1.specs.Outside.{Side, Outside, outside, no_store, HasFailed, IsUntouched, IsWritten}
+use Rattle.a1.specs.Endings.{usage_text, bad_line_text, cause_status, status_in, Writes, Tells, Finishes}
 use Rattle.a1.specs.Rules.{Serves}
 use Rattle.a1.specs.RunCommand.{IsLegalRun}
-use Rattle.a1.specs.Commands.{rules_of, Says, Ends, EndsWith}
+use Rattle.a1.specs.Commands.{rules_of, Says, EndsWith}
 use Rattle.a1.specs.declared.words.Command.{Command}
 use Rattle.a1.specs.declared.words.Command.TheVariants as command
 use Rattle.a1.specs.declared.ending.Cause.{Cause}
@@ -41,7 +41,7 @@ module _ (o : Outside) (status : ℕ) (run : Run) (rests : IsUntouched o.store) 
   ends_usage none tells = told None cause.Usage usage_text (refl, none) tells
 
   pub ends_served : (c : Command) (served : Result Served InputFault) → Serves (rules_of c) o.source served → Finishes served o.sink status run → EndsWith (Some c) o status run
-  ends_served c (Ok served) serves (tells, same) = told (Some c) cause.Done served.text (subst (λ r. (rules_of c).IsServed o.source.before served.text r) (sym same) serves.0, serves.1) tells
+  ends_served c (Ok served) serves (tells, same) = told (Some c) cause.Done served.text (subst (λ r. (rules_of c).IsServed o.source served.text r) (sym same) serves) tells
   ends_served c (Err fault.Failed) serves (why, text, (is, none), tells, left) = told (Some c) cause.Unread [] (serves, refl, left) (rw (← is, ← none) tells)
   ends_served c (Err fault.Memory) serves (why, text, (is, none), tells, left) = told (Some c) cause.Memory [] (refl, left) (rw (← is, ← none) tells)
   ends_served c (Err (fault.Line line)) serves (why, text, inl said, tells, left) = told (Some c) (cause.Malformed line) (bad_line_text line) (serves, refl, left) (rw (← said.0, ← said.1) tells)
@@ -64,10 +64,10 @@ append_none (Some bytes) = ap Some (append-nil bytes)
 module _ (o : Outside) (run : Run) where
   -- what a command that the words name has served
   abbrev pub IsServedBy : Option Command → Type 0
-  IsServedBy c = (d : Command) × (text : List ℕ) × (c ≡ Some d) × (rules_of d).IsServed o.source.before text run
+  IsServedBy c = (d : Command) × (text : List ℕ) × (c ≡ Some d) × (rules_of d).IsServed o.source text run
 
   by_cause : (c : Option Command) (why : Cause) (text : List ℕ) → Says c o.source why text run → IsServedBy c ⊎ (run ≡ empty_run)
-  by_cause (Some c) cause.Done text says = inl (c, text, refl, says.0)
+  by_cause (Some c) cause.Done text says = inl (c, text, refl, says)
   by_cause (Some c) cause.Usage text says = absurd says
   by_cause (Some c) cause.Unread text says = inr says.2
   by_cause (Some c) (cause.Malformed line) text says = inr says.2
@@ -82,7 +82,7 @@ module _ (o : Outside) (run : Run) where
   run_or_none c status h = by_cause c h.ending.cause h.ends.text h.ends.says
 
   pub legal : (c : Option Command) (status : ℕ) → EndsWith c o status run → IsLegalRun run
-  legal c status h = ⊎_elim (λ (s : IsServedBy c). (lawful s.0).legal o.source.before s.1 run s.3) (empty_legal run) (run_or_none c status h)
+  legal c status h = ⊎_elim (λ (s : IsServedBy c). (lawful s.0).legal o.source s.1 run s.3) (empty_legal run) (run_or_none c status h)
 
   -- an ending whose text was written whole
   abbrev IsWhole : Option Command → Cause → ℕ → Type 0
@@ -102,11 +102,11 @@ module _ (o : Outside) (run : Run) where
   whole_at : (c : Option Command) (status n : ℕ) (h : EndsWith c o status run) → status ≡ n → n ≢ 4 → IsWhole c h.ending.cause n
   whole_at c status n h is other = ⊎_elim (λ (w : IsWhole c h.ending.cause status). subst (IsWhole c h.ending.cause) is w) (λ cut. absurd (other (sym is ∙ cut.0))) (ended c status h)
 
-  pub done : (c : Option Command) (status : ℕ) → EndsWith c o status run → status ≡ 0 → (s : IsServedBy c) × IsWritten o.sink s.1 × IsReadWhole o.source
+  pub done : (c : Option Command) (status : ℕ) → EndsWith c o status run → status ≡ 0 → (s : IsServedBy c) × IsWritten o.sink s.1
   done c status h is = by c h.ending.cause (whole_at c status 0 h is (λ e. omega arith))
     where
-      by : (c : Option Command) (why : Cause) → IsWhole c why 0 → (s : IsServedBy c) × IsWritten o.sink s.1 × IsReadWhole o.source
-      by (Some c) cause.Done w = ((c, w.0, refl, w.1.0), w.2, w.1.1)
+      by : (c : Option Command) (why : Cause) → IsWhole c why 0 → (s : IsServedBy c) × IsWritten o.sink s.1
+      by (Some c) cause.Done w = ((c, w.0, refl, w.1), w.2)
       by None cause.Done w = absurd w.1
       by c why w = absurd (omega (arith, w.3))
 
@@ -138,11 +138,11 @@ module _ (o : Outside) (run : Run) where
       by c why w = absurd (omega (arith, w.3))
 
   -- the same of the command that the words name
-  pub served : (d : Command) (status : ℕ) → EndsWith (Some d) o status run → status ≡ 0 → (text : List ℕ) × (rules_of d).IsServed o.source.before text run × IsWritten o.sink text
+  pub served : (d : Command) (status : ℕ) → EndsWith (Some d) o status run → status ≡ 0 → (text : List ℕ) × (rules_of d).IsServed o.source text run × IsWritten o.sink text
   served d status h is =
       let s = done (Some d) status h is in
       let same : s.0.0 ≡ d = (let e : Some d ≡ Some s.0.0 = s.0.2 in cc) in
-      (s.0.1, subst (λ k. (rules_of k).IsServed o.source.before s.0.1 run) same s.0.3, s.1)
+      (s.0.1, subst (λ k. (rules_of k).IsServed o.source s.0.1 run) same s.0.3, s.1)
 
   pub line_said : (d : Command) (status : ℕ) → EndsWith (Some d) o status run → status ≡ 8
       → (line : ℕ) × IfSome o.source.before (λ bytes. (rules_of d).IsMalformed bytes line) × IsWritten o.sink (bad_line_text line)
@@ -186,7 +186,7 @@ module _ (o : Outside) (run : Run) where
       by cause.Memory w = inr w.3
       by cause.Usage w = absurd w.1
       by cause.Unread w = absurd (read w.1.0)
-      by cause.Done w = absurd ((lawful d).served_apart bytes w.0 run line (subst (λ s. (rules_of d).IsServed s w.0 run) holds w.1.0) bad)
+      by cause.Done w = absurd ((lawful d).served_apart o.source bytes w.0 run line holds w.1 bad)
 
   -- other words: the usage is said, unless the sink failed or memory was wanting
   pub other_words : (status : ℕ) → EndsWith None o status run → ¬ HasFailed o.sink → (status ≡ 2) ⊎ (status ≡ 6)

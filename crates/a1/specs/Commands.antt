@@ -2,7 +2,7 @@
 use Rattle.std.specs.Prelude.{◌≡◌, ℕ, List, [], Option, Some, None, IfSome}
 use Rattle.run_text.specs.Run.{empty_run}
 use Rattle.run_text.specs.declared.run.Run.{Run}
-use Rattle.a1.specs.Outside.{Side, Outside, HasFailed, IsUntouched, IsReadWhole}
+use Rattle.a1.specs.Outside.{Side, Outside, HasFailed, IsUntouched}
 use Rattle.a1.specs.Endings.{usage_text, bad_line_text, status_of, Writes}
 use Rattle.a1.specs.Rules.{Rules}
 use Rattle.a1.specs.RunCommand.{run_rules}
@@ -19,7 +19,7 @@ rules_of command.Steps = steps_rules
 
 -- why a command, or words that are none, may end so over this source, with which text and which run
 abbrev pub Says : Option Command → Side (List ℕ) → Cause → List ℕ → Run → Type 0
-Says (Some c) source cause.Done text run = (rules_of c).IsServed source.before text run × IsReadWhole source
+Says (Some c) source cause.Done text run = (rules_of c).IsServed source text run
 Says (Some c) source cause.Unread text run = HasFailed source × (text ≡ []) × (run ≡ empty_run)
 Says (Some c) source (cause.Malformed line) text run =
     IfSome source.before (λ bytes. (rules_of c).IsMalformed bytes line) × (text ≡ bad_line_text line) × (run ≡ empty_run)

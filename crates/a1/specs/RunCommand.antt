@@ -8,6 +8,7 @@ use Rattle.answer_text.specs.declared.transcript.Transcript.{Transcript}
 use Rattle.run_text.specs.Script.{script_of, asked_in, IsOf}
 use Rattle.run_text.specs.declared.run.Run.{Run}
 use Rattle.run_text.specs.declared.run.Commit2.{Commit2}
+use Rattle.a1.specs.Outside.{IsReadWhole}
 use Rattle.a1.specs.Rules.{Rules}
 
 -- the stamps of the commits of actors that are no session
@@ -25,12 +26,12 @@ pub record IsRunOf (script : Option (List ℕ)) (run : Run) : Type 0 where
   pub alone : run.background ≡ []
   pub legal : IsLegalRun run
 
--- the text is the transcript of the run
+-- the text is the transcript of the run, and the source is read to its end
 abbrev pub run_rules : Rules
 run_rules = record {
   IsText = λ bytes. IsOk (script_of bytes);
   IsMalformed = λ bytes line. script_of bytes ≡ Err line;
-  IsServed = λ script text run. IsRunOf script run × (text ≡ text_of run.sessions);
+  IsServed = λ source text run. IsRunOf source.before run × (text ≡ text_of run.sessions) × IsReadWhole source;
 }
 
 -- the transcript of these sessions

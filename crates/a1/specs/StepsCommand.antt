@@ -7,6 +7,7 @@ use Rattle.farm_core.specs.declared.event.Answer.{Answer}
 use Rattle.steps_text.specs.EventText.{answer_text, IsTextOf, IsFaultOf}
 use Rattle.steps_text.specs.declared.fault.TextFault.TheVariants.{Line}
 use Rattle.run_text.specs.Run.{empty_run}
+use Rattle.a1.specs.Outside.{IsReadWhole}
 use Rattle.a1.specs.Rules.{Rules}
 use Rattle.a1.specs.declared.steps_command.TheConstants.{STEPS_NODES}
 
@@ -30,10 +31,10 @@ pub record IsStepped (script : Option (List ℕ)) (text : List ℕ) : Type 0 whe
   pub of : IfSome script (λ bytes. IsTextOf STEPS_NODES bytes events)
   pub answered : IsAnswered events text
 
--- there is no run
+-- there is no run, and the source is read to its end
 abbrev pub steps_rules : Rules
 steps_rules = record {
   IsText = λ bytes. (events : List Event) × IsTextOf STEPS_NODES bytes events;
   IsMalformed = λ bytes line. IsFaultOf STEPS_NODES bytes (Line line);
-  IsServed = λ script text run. IsStepped script text × (run ≡ empty_run);
+  IsServed = λ source text run. IsStepped source.before text × (run ≡ empty_run) × IsReadWhole source;
 }

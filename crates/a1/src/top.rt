@@ -65,17 +65,16 @@ pub fn a1<T: Wait, R: Source, W: Sink, S: Store, G: Gate>(
 
     // What the command serves is written whole, and its run is left; or there is no run.
     ensures served { (c : Command) → command_of words.now ≡ Some c → result.status ≡ 0 →
-        (text : List ℕ) × (rules_of c).IsServed (R.left source.old) text result.run
+        (text : List ℕ) × (rules_of c).IsServed (side R.left R.faults source.old source.new) text result.run
         × (W.written sink.new ≡ append_known (W.written sink.old) text) }
     ensures run_or_none { ((c : Command) × (text : List ℕ) × (command_of words.now ≡ Some c)
-        × (rules_of c).IsServed (R.left source.old) text result.run) ⊎ (result.run ≡ empty_run) }
+        × (rules_of c).IsServed (side R.left R.faults source.old source.new) text result.run) ⊎ (result.run ≡ empty_run) }
     ensures no_run { ((result.status ≡ 2) ⊎ (result.status ≡ 3) ⊎ (result.status ≡ 8)) → result.run ≡ empty_run }
 
     // The requests answered as committed form, in the order of their stamps, one legal history.
     ensures legal_history { IsLegalRun result.run }
 
-    // What else is read and written.
-    ensures read_whole { result.status ≡ 0 → IfSome (R.left source.old) (λ bytes. R.left source.new ≡ Some []) }
+    // What else is written.
     ensures usage_written { result.status ≡ 2 → W.written sink.new ≡ append_known (W.written sink.old) usage_text }
     ensures nothing_written { result.status ≡ 3 → W.written sink.new ≡ W.written sink.old }
     ensures line_written { (c : Command) → command_of words.now ≡ Some c → result.status ≡ 8 →

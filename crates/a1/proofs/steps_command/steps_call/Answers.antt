@@ -1,7 +1,4 @@
-use Rattle.std.proofs.Common.{refl, subst, ℕ}
-use Rattle.run_text.specs.declared.run.Run.{Run}
-use Rattle.a1.specs.Outside.{outside, no_store}
-use Rattle.a1.specs.Commands.{EndsWith}
+use Rattle.std.proofs.Common.{refl}
 use Rattle.a1.specs.declared.words.Command.TheVariants as command
 use Rattle.a1.proofs.StepsLemmas.{no_run}
 use Rattle.a1.proofs.TableLemmas.{ends_usage, ends_served}

@@ -1,7 +1,4 @@
-use Rattle.std.proofs.Common.{◌≡◌, Some, sym, subst}
-use Rattle.std.specs.Prelude.{None}
-use Rattle.a1.specs.Commands.{EndsWith, rules_of}
-use Rattle.a1.proofs.TableLemmas.{run_or_none, legal, done, served, misused, unread, line_said, unwritten, no_run, whole, broken, other_words}
+use Rattle.a1.proofs.TableLemmas.{run_or_none, legal, served, misused, unread, line_said, unwritten, no_run, whole, broken, other_words}
 use Rattle.a1.proofs.top.a1.Goals as goal
 
 pub returns-clause-served : goal.returns-clause-served
@@ -15,9 +12,6 @@ returns-clause-no_run g c = no_run _ c.dispatch.result.run _ c.dispatch.result.s
 
 pub returns-clause-legal_history : goal.returns-clause-legal_history
 returns-clause-legal_history g c = legal _ c.dispatch.result.run _ c.dispatch.result.status c.dispatch.ensures
-
-pub returns-clause-read_whole : goal.returns-clause-read_whole
-returns-clause-read_whole g c = λ is. (done _ c.dispatch.result.run _ c.dispatch.result.status c.dispatch.ensures is).2
 
 pub returns-clause-usage_written : goal.returns-clause-usage_written
 returns-clause-usage_written g c = λ is. (misused _ c.dispatch.result.run _ c.dispatch.result.status c.dispatch.ensures is).1

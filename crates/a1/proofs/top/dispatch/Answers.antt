@@ -1,5 +1,5 @@
 use Rattle.std.proofs.Common.{refl}
-use Rattle.a1.proofs.TableLemmas.{ends_usage, ends_beside}
+use Rattle.a1.proofs.TableLemmas.{ends_usage}
 use Rattle.a1.proofs.top.dispatch.Goals as goal
 
 pub returns-in-None : goal.returns-in-None
