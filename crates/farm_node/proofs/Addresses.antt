@@ -1,10 +1,7 @@
 -- When two addresses are one.
-use Rattle.std.proofs.Common.{◌≡◌, eqb, Bool, true, false, ◌&&◌, sym, refl, ap, ◌∙◌}
-use Rattle.std.proofs.lemmas.Bool.{eq-eqb, eqb-true}
+use Rattle.farm_node.proofs.Common.{◌≡◌, eqb, Bool, true, false, ◌&&◌, sym, refl, ap, ◌∙◌, eq-eqb, eqb-true, Addr, same_addr}
 use Rattle.std.specs.Ordering.{nat_cmp, is_eq}
 use Rattle.std.specs.Cmp.{tied_then, unsigned_tied}
-use Rattle.a1_base.specs.declared.place.Addr.{Addr}
-use Rattle.object_region.specs.Occupancy.{same_addr}
 
 pub and_right : (x y : Bool) → (x && y) ≡ true → y ≡ true
 and_right true y e = e

@@ -1,11 +1,7 @@
 -- What an entry adds to a story, said once, for every list of entries.
-use Rattle.std.proofs.Common.{◌≡◌, ℕ, cond, Bool, true, false, List, [], ◌∷◌, Some, Ok, Err, refl, ap, subst}
-use Rattle.a1_base.specs.declared.place.Addr.{Addr}
-use Rattle.a1_base.specs.declared.place.TxnId.{TxnId}
-use Rattle.object_region.specs.Occupancy.{same_addr}
-use Rattle.farm_node.specs.declared.entry.Entry.{Entry}
-use Rattle.farm_node.specs.declared.entry.Entry.TheVariants.{Made, Open, Shut, Read, Alloc, Lock, Check, Put, Unlock, Collect}
-use Rattle.farm_node.specs.Story.{Given, gives, Story, with_given, with_put, story_after, story_from, number_of}
+use Rattle.farm_node.proofs.Common.{◌≡◌, ℕ, cond, Bool, true, false, List, [], ◌∷◌, Some, Ok, Err, refl, ap, subst, Addr, TxnId, same_addr, Entry, Made, Open}
+use Rattle.farm_node.proofs.Common.{Shut, Read, Alloc, Lock, Check, Put, Unlock, Collect, Given, gives, Story, with_given, with_put, story_after, story_from}
+use Rattle.farm_node.proofs.Common.{number_of}
 use Rattle.farm_node.proofs.Chains.{BelowAll}
 
 -- nothing, what a transaction gives, or a put; by the entry's own actor

@@ -1,20 +1,8 @@
 -- The stamps that lawful entries answer are in range.
-use Rattle.std.proofs.Common.{ℕ, nat_le, nat_lt, cond, true, false, List, [], ◌∷◌, ◌++◌, Option, Some, None, Result, Ok, Err, sym, ap, subst, arith}
-use Rattle.a1_base.specs.declared.place.Addr.{Addr}
-use Rattle.a1_base.specs.declared.place.TxnId.{TxnId}
-use Rattle.version_chain.specs.Versions.{Version, version_at, newest}
-use Rattle.farm_node.specs.declared.hold.Hold.{Hold}
-use Rattle.farm_node.specs.declared.entry.Found.{Found}
-use Rattle.farm_node.specs.declared.entry.Locked.{Locked}
-use Rattle.farm_node.specs.declared.entry.Collected.{Collected}
-use Rattle.farm_node.specs.declared.entry.CheckFault.{CheckFault}
-use Rattle.farm_node.specs.declared.entry.CheckFault.TheVariants.{Held, Changed}
-use Rattle.farm_node.specs.declared.entry.Entry.{Entry}
-use Rattle.farm_node.specs.declared.entry.Entry.TheVariants.{Made, Open, Shut, Read, Alloc, Lock, Check, Put, Unlock, Collect}
-use Rattle.farm_node.specs.Cell.{Bytes, Cell, found_of, found_at, read_answer, unless_changed, lock_given, lock_answer, check_answer, same_txn}
-use Rattle.farm_node.specs.NodeState.{NodeState, Fits, Lawful, replay}
-use Rattle.a1_base.specs.Stamps.{IsStamp}
-use Rattle.farm_node.specs.Locks.{StampsBelow, AnswersStamps}
+use Rattle.farm_node.proofs.Common.{ℕ, nat_le, nat_lt, cond, true, false, List, [], ◌∷◌, ◌++◌, Option, Some, None, Result, Ok, Err, sym, ap, subst, arith, Addr}
+use Rattle.farm_node.proofs.Common.{TxnId, IsStamp, Version, version_at, newest, Hold, Found, Locked, Collected, CheckFault, Held, Changed, Entry, Made, Open}
+use Rattle.farm_node.proofs.Common.{Shut, Read, Alloc, Lock, Check, Put, Unlock, Collect, Bytes, Cell, same_txn, found_of, found_at, read_answer}
+use Rattle.farm_node.proofs.Common.{unless_changed, lock_given, lock_answer, check_answer, NodeState, Fits, replay, Lawful, StampsBelow, AnswersStamps}
 use Rattle.farm_node.proofs.Sound.{Here, Sits, Sound, sound, less_max}
 use Rattle.farm_node.proofs.Stories.{Stands, stands}
 

@@ -1,24 +1,10 @@
 -- Who and what a conflict blames, and the ranges of stamps.
-use Rattle.std.proofs.Common.{◌≡◌, ℕ, ◌<◌, ◌≤◌, nat_lt, cond, Bool, true, false, List, [], ◌∷◌, ◌++◌, Option, Some, None, Result, Ok, Err, sym, refl, ap, ◌∙◌, subst, inl, inr, ⊎_elim, arith}
-use Rattle.std.proofs.lemmas.Bool.{ltb-true}
-use Rattle.a1_base.specs.declared.place.Addr.{Addr}
-use Rattle.a1_base.specs.declared.place.TxnId.{TxnId}
-use Rattle.object_region.specs.Occupancy.{same_addr}
-use Rattle.version_chain.specs.Versions.{newest}
-use Rattle.farm_node.specs.declared.hold.Hold.{Hold}
-use Rattle.farm_node.specs.declared.entry.Found.{Found}
-use Rattle.farm_node.specs.declared.entry.Locked.{Locked}
-use Rattle.farm_node.specs.declared.entry.CheckFault.{CheckFault}
-use Rattle.farm_node.specs.declared.entry.CheckFault.TheVariants.{Held, Changed}
-use Rattle.farm_node.specs.declared.entry.Entry.{Entry}
-use Rattle.farm_node.specs.declared.entry.Entry.TheVariants.{Made, Read, Alloc, Lock, Check}
-use Rattle.farm_node.specs.Cell.{Bytes, Cell, found_at, read_answer, unless_changed, lock_given, lock_answer, check_answer, same_txn, loaded_cell}
-use Rattle.farm_node.specs.NodeState.{PinnedBy, FitsLock, FitsCheck, loaded_cells, begun, Lawful, replay}
-use Rattle.farm_node.specs.Story.{Installed, Story, story, story_from, untold, loaded_puts}
-use Rattle.farm_node.specs.Laws.{versions_there}
-use Rattle.a1_base.specs.Lists.{IsAmong}
-use Rattle.std.specs.List.{AllByRecursion}
-use Rattle.farm_node.specs.Locks.{Takes, BlamesHolder, BlamesPut, LocksHold, RangesHold}
+use Rattle.farm_node.proofs.Common.{◌≡◌, ℕ, ◌<◌, ◌≤◌, nat_lt, cond, Bool, true, false, List, [], ◌∷◌, ◌++◌, Option, Some, None, Result, Ok, Err, sym, refl, ap}
+use Rattle.farm_node.proofs.Common.{◌∙◌, subst, inl, inr, ⊎_elim, arith, ltb-true, AllByRecursion, Addr, TxnId, IsAmong, same_addr, newest, Hold, Found, Locked}
+use Rattle.farm_node.proofs.Common.{CheckFault, Held, Changed, Entry, Made, Read, Alloc, Lock, Check, Bytes, Cell, same_txn, found_at, read_answer, loaded_cell}
+use Rattle.farm_node.proofs.Common.{unless_changed, lock_given, lock_answer, check_answer, PinnedBy, FitsLock, FitsCheck, loaded_cells, begun, replay, Lawful}
+use Rattle.farm_node.proofs.Common.{Installed, Story, story_from, loaded_puts, untold, story, versions_there, Takes, BlamesHolder, BlamesPut}
+use Rattle.farm_node.specs.Locks.{LocksHold, RangesHold}
 use Rattle.farm_node.proofs.Sound.{Here, Sits, PinOk, sound_begun, sound_end, pinned}
 use Rattle.farm_node.proofs.Steps.{Keeps, keeps_all}
 use Rattle.farm_node.proofs.Stories.{Stands, stands}

@@ -1,16 +1,15 @@
 -- A map of objects as a function, and what changes of it keep.
-use Rattle.std.proofs.Common.{◌≡◌, ℕ, max, cond, Bool, true, false, not, ◌||◌, ◌&&◌, List, [], Option, Some, None, Result, Ok, Err, OnOk, OnErr, slice_index_or, sym, refl, ap, ◌∙◌, subst}
-use Rattle.std.specs.Option.{is_some, IsSome}
-use Rattle.std.specs.List.{list_any}
+use Rattle.farm_node.proofs.Common.{◌≡◌, ℕ, max, cond, Bool, true, false, not, ◌&&◌, ◌||◌, List, [], Option, Some, None, Result, Ok, Err, is_some, OnOk, OnErr}
+use Rattle.farm_node.proofs.Common.{sym, refl, ap, ◌∙◌, subst, BTreeMap, list_any, Addr, same_addr, Occupancy, Hold, Cell, is_open, raised_to, past_raised}
+use Rattle.farm_node.proofs.Common.{is_single, is_settled, NodeState, set_cell, places, looked_at, cells_of, plain_from, AgreesWith, IsTracked, settled_there}
+use Rattle.farm_node.proofs.Common.{with_cell}
+use Rattle.std.proofs.Common.{slice_index_or}
+use Rattle.std.specs.Option.{IsSome}
 use Rattle.std.specs.Map.{lookup}
-use Rattle.std.specs.BTreeMap.{BTreeMap, WritesThrough, UpdatesBy, is_at}
+use Rattle.std.specs.BTreeMap.{WritesThrough, UpdatesBy, is_at}
 use Rattle.a1_base.specs.declared.Memory.{Memory}
-use Rattle.a1_base.specs.declared.place.Addr.{Addr}
-use Rattle.object_region.specs.Occupancy.{addr_order, same_addr, Occupancy, vacant, with_place, without_place}
-use Rattle.farm_node.specs.declared.hold.Hold.{Hold}
-use Rattle.farm_node.specs.Cell.{Cell, raised_to, past_raised, is_open, is_single, is_settled}
-use Rattle.farm_node.specs.NodeState.{NodeState, set_cell, looked_at}
-use Rattle.farm_node.specs.State.{cells_of, plain_from, AgreesWith, IsTracked, settled_there, with_cell, given_back}
+use Rattle.object_region.specs.Occupancy.{addr_order, vacant, with_place, without_place}
+use Rattle.farm_node.specs.State.{given_back}
 use Rattle.farm_node.proofs.Addresses.{addr_eq}
 
 -- a write through what `get_mut` lent

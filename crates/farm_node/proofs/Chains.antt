@@ -1,10 +1,8 @@
 -- Lists of versions, and of puts as versions.
-use Rattle.std.proofs.Common.{◌≡◌, ℕ, ◌<◌, ◌≤◌, nat_le, cond, Bool, true, false, List, [], ◌∷◌, Option, Some, None, sym, refl, ap, ◌∙◌, subst, ⊎_elim, arith}
-use Rattle.std.proofs.lemmas.Bool.{le-leb, lt-leb, leb-true}
-use Rattle.version_chain.specs.Versions.{Version, version_at, newest, cut, Falls}
-use Rattle.farm_node.specs.Cell.{Bytes, found_of, found_at, is_absent, is_gone}
-use Rattle.farm_node.specs.Story.{Installed, version_of, versions_of, stamped_bytes}
-use Rattle.a1_base.specs.Lists.{IsAmong}
+use Rattle.farm_node.proofs.Common.{◌≡◌, ℕ, ◌<◌, ◌≤◌, nat_le, cond, Bool, true, false, List, [], ◌∷◌, Option, Some, None, sym, refl, ap, ◌∙◌, subst, ⊎_elim}
+use Rattle.farm_node.proofs.Common.{arith, leb-true, IsAmong, Version, version_at, newest, cut, Falls, Bytes, found_of, found_at, is_absent, is_gone, Installed}
+use Rattle.farm_node.proofs.Common.{version_of, versions_of, stamped_bytes}
+use Rattle.std.proofs.lemmas.Bool.{le-leb, lt-leb}
 use Rattle.farm_node.proofs.Addresses.{and_left, and_right}
 
 -- versions

@@ -1,12 +1,9 @@
 -- How many objects and versions a map has.
-use Rattle.std.proofs.Common.{◌≡◌, ℕ, ◌+◌, ◌-◌, ◌^◌, ◌<◌, min, List, [], ◌∷◌, length, Option, Some, refl, ap, ◌∙◌, arith}
+use Rattle.farm_node.proofs.Common.{◌≡◌, ℕ, ◌+◌, ◌-◌, ◌^◌, ◌<◌, min, List, [], ◌∷◌, length, Option, Some, refl, ap, ◌∙◌, arith, BTreeMap, Addr, Rises, Cell}
+use Rattle.farm_node.proofs.Common.{objects_in, versions_in, NodeState, places, total, object_count, version_count, counted, cells_of}
 use Rattle.std.specs.Map.{values_of}
-use Rattle.std.specs.BTreeMap.{BTreeMap, IsOrdered, btree_map_len, values}
-use Rattle.a1_base.specs.declared.place.Addr.{Addr}
-use Rattle.object_region.specs.Occupancy.{addr_order, Rises}
-use Rattle.farm_node.specs.Cell.{Cell, objects_in, versions_in}
-use Rattle.farm_node.specs.NodeState.{NodeState, places, total, counted, object_count, version_count}
-use Rattle.farm_node.specs.State.{cells_of}
+use Rattle.std.specs.BTreeMap.{IsOrdered, btree_map_len, values}
+use Rattle.object_region.specs.Occupancy.{addr_order}
 use Rattle.farm_node.proofs.Totals.{sum_of, total_entries}
 use Rattle.farm_node.proofs.Sweeping.{IsPlaced}
 

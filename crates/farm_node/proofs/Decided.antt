@@ -1,19 +1,10 @@
 -- What a transaction decides, no other changes between its two stamps.
-use Rattle.std.proofs.Common.{◌≡◌, ◌⊎◌, ℕ, ◌<◌, ◌≤◌, max, cond, Bool, true, false, List, [], ◌∷◌, ◌++◌, Option, Some, None, Ok, sym, refl, ap, ◌∙◌, subst, inl, inr, ⊎_elim, arith}
-use Rattle.a1_base.specs.declared.place.Addr.{Addr}
-use Rattle.a1_base.specs.declared.place.TxnId.{TxnId}
-use Rattle.object_region.specs.Occupancy.{same_addr}
-use Rattle.version_chain.specs.Versions.{version_at, newest}
-use Rattle.farm_node.specs.declared.hold.Hold.{Hold}
-use Rattle.farm_node.specs.declared.entry.Locked.{Locked}
-use Rattle.farm_node.specs.declared.entry.Placed.{Placed}
-use Rattle.farm_node.specs.declared.entry.Entry.{Entry}
-use Rattle.farm_node.specs.declared.entry.Entry.TheVariants.{Made, Alloc, Lock, Check, Put}
-use Rattle.farm_node.specs.Cell.{Bytes, Cell, made_by, locked_by, is_open, is_gone}
-use Rattle.farm_node.specs.NodeState.{NodeState, set_cell, PinnedBy, FitsLock, FitsCheck, Fits, looked_at, after, LawfulFrom, Lawful, replay}
-use Rattle.farm_node.specs.Story.{Story, with_put, story_after, story_from, story_begun, story, versions_of}
-use Rattle.farm_node.specs.Laws.{versions_there, Spares, PutsAt, KeepsLock, Decides, MineDecides}
-use Rattle.std.specs.List.{AllByRecursion}
+use Rattle.farm_node.proofs.Common.{◌≡◌, ◌⊎◌, ℕ, ◌<◌, ◌≤◌, max, cond, Bool, true, false, List, [], ◌∷◌, ◌++◌, Option, Some, None, Ok, sym, refl, ap, ◌∙◌, subst}
+use Rattle.farm_node.proofs.Common.{inl, inr, ⊎_elim, arith, AllByRecursion, Addr, TxnId, same_addr, version_at, newest, Hold, Placed, Locked, Entry, Made}
+use Rattle.farm_node.proofs.Common.{Alloc, Lock, Check, Put, Bytes, Cell, is_open, made_by, locked_by, is_gone, NodeState, set_cell, PinnedBy, FitsLock}
+use Rattle.farm_node.proofs.Common.{FitsCheck, Fits, looked_at, after, LawfulFrom, replay, Lawful, Story, with_put, story_after, story_from, story_begun, story}
+use Rattle.farm_node.proofs.Common.{versions_of, versions_there, Spares, PutsAt, KeepsLock, Decides}
+use Rattle.farm_node.specs.Laws.{MineDecides}
 use Rattle.farm_node.proofs.Addresses.{and_left, same_self}
 use Rattle.farm_node.proofs.Sound.{Sound, sound, pinned}
 use Rattle.farm_node.proofs.Steps.{Keeps, keeps, no_cell, check_open_at, Askable, askable, lock_low}

@@ -1,19 +1,10 @@
 -- Events on one cell, as entries of the node.
-use Rattle.std.proofs.Common.{◌≡◌, ℕ, max, List, Option, Some, None, Result, Ok, Err, OnOk, OnErr, ap, ◌∙◌}
-use Rattle.std.specs.BTreeMap.{BTreeMap}
-use Rattle.a1_base.specs.declared.place.Addr.{Addr}
-use Rattle.a1_base.specs.declared.place.TxnId.{TxnId}
-use Rattle.object_region.specs.Occupancy.{Occupancy}
-use Rattle.farm_node.specs.declared.entry.Found.{Found}
-use Rattle.farm_node.specs.declared.entry.CheckFault.{CheckFault}
-use Rattle.farm_node.specs.declared.entry.Entry.TheVariants.{Check}
+use Rattle.farm_node.proofs.Common.{◌≡◌, ℕ, max, List, Option, Some, None, Result, Ok, Err, OnOk, OnErr, ap, ◌∙◌, BTreeMap, Addr, TxnId, IsStamp, Occupancy}
+use Rattle.farm_node.proofs.Common.{Found, CheckFault, Check, Cell, read_answer, check_answer, is_settled, NodeState, set_cell, places, PinnedBy, HeldBy, Adds}
+use Rattle.farm_node.proofs.Common.{cells_of, plain_from}
 use Rattle.farm_node.specs.declared.faults.ReadFault.{ReadFault}
 use Rattle.farm_node.specs.declared.faults.ReadFault.TheVariants.{Held as ReadHeld, Memory as NoReadMemory}
-use Rattle.farm_node.specs.Cell.{Cell, read_answer, check_answer, is_settled}
-use Rattle.farm_node.specs.NodeState.{NodeState, PinnedBy, HeldBy, Adds, set_cell}
-use Rattle.a1_base.specs.Stamps.{IsStamp}
 use Rattle.farm_node.specs.Answers.{read_entry, ReadsCell, AddsIfMade}
-use Rattle.farm_node.specs.State.{cells_of, plain_from}
 use Rattle.farm_node.proofs.CellMaps.{looked_there, looked_nowhere, cells_same}
 
 pub reads_settled : (s : ℕ) (c w : Cell) (result : Result Found ReadFault) → ReadsCell s c result w → is_settled w ≡ is_settled c

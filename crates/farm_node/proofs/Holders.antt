@@ -1,12 +1,8 @@
 -- Who holds a lock, and who may ask for one.
-use Rattle.std.proofs.Common.{◌≡◌, ◌↔◌, ℕ, cond, Bool, true, false, List, [], ◌∷◌, Option, Some, None, IsTrue, is_some, sym, refl, ap, ◌∙◌, inl, inr, ⊎_elim}
-use Rattle.a1_base.specs.declared.place.Addr.{Addr}
-use Rattle.a1_base.specs.declared.place.TxnId.{TxnId}
-use Rattle.version_chain.specs.Versions.{Version}
-use Rattle.farm_node.specs.declared.hold.Hold.{Hold}
-use Rattle.farm_node.specs.Cell.{Bytes, Cell, same_txn, found_at}
-use Rattle.farm_node.specs.NodeState.{NodeState, HeldBy, HeldNew, HasValue, MayLock}
-use Rattle.farm_node.specs.State.{has_lock, holds_there, has_value, is_new, may_lock}
+use Rattle.farm_node.proofs.Common.{◌≡◌, ℕ, cond, Bool, true, false, List, [], ◌∷◌, Option, Some, None, is_some, sym, refl, ap, ◌∙◌, inl, inr, ⊎_elim, Addr}
+use Rattle.farm_node.proofs.Common.{TxnId, Version, Hold, Bytes, Cell, same_txn, found_at, NodeState, HeldBy, HeldNew, HasValue, MayLock, has_lock}
+use Rattle.std.proofs.Common.{◌↔◌, IsTrue}
+use Rattle.farm_node.specs.State.{holds_there, has_value, is_new, may_lock}
 use Rattle.farm_node.proofs.Sound.{txn_eq, txn_self}
 
 pub has_lock_to : (l : Option Hold) (t : TxnId) → has_lock t l ≡ true → (h : Hold) × (l ≡ Some h) × (h.by ≡ t)

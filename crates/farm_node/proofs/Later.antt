@@ -1,18 +1,7 @@
 -- The puts of actors: each comes by a lock of an actor, above the stamp of the start.
-use Rattle.std.proofs.Common.{◌≡◌, ◌⊎◌, ℕ, ◌<◌, ◌≤◌, cond, Bool, true, false, List, [], ◌∷◌, Option, Some, None, sym, refl, ◌∙◌, subst, inl, inr, ⊎_elim, arith}
-use Rattle.a1_base.specs.declared.place.Addr.{Addr}
-use Rattle.a1_base.specs.declared.place.TxnId.{TxnId}
-use Rattle.object_region.specs.Occupancy.{same_addr}
-use Rattle.version_chain.specs.Versions.{newest, cut}
-use Rattle.farm_node.specs.declared.hold.Hold.{Hold}
-use Rattle.farm_node.specs.declared.entry.Start.{Start}
-use Rattle.farm_node.specs.declared.entry.Entry.{Entry}
-use Rattle.farm_node.specs.declared.entry.Entry.TheVariants.{Made}
-use Rattle.farm_node.specs.Cell.{Bytes, Cell, loaded_cell}
-use Rattle.farm_node.specs.NodeState.{NodeState, loaded_cells, begun, replay_from, Lawful}
-use Rattle.farm_node.specs.Story.{Installed, Story, story_from, untold}
-use Rattle.farm_node.specs.Laws.{versions_there}
-use Rattle.a1_base.specs.Lists.{IsAmong}
+use Rattle.farm_node.proofs.Common.{◌≡◌, ◌⊎◌, ℕ, ◌<◌, ◌≤◌, cond, Bool, true, false, List, [], ◌∷◌, Option, Some, None, sym, refl, ◌∙◌, subst, inl, inr, ⊎_elim}
+use Rattle.farm_node.proofs.Common.{arith, Addr, TxnId, IsAmong, same_addr, newest, cut, Hold, Start, Entry, Made, Bytes, Cell, loaded_cell, NodeState}
+use Rattle.farm_node.proofs.Common.{loaded_cells, begun, replay_from, Lawful, Installed, Story, story_from, untold, versions_there}
 use Rattle.farm_node.proofs.Sound.{sound_begun}
 use Rattle.farm_node.proofs.Steps.{Keeps, keeps_all}
 use Rattle.farm_node.proofs.Chains.{newest_cut}

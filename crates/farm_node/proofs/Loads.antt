@@ -1,9 +1,6 @@
 -- Loading one object after another.
-use Rattle.std.proofs.Common.{◌≡◌, ℕ, ◌<◌, List, [], ◌∷◌, ◌++◌, length, take, Result, Ok, Err, OnErr, arith, refl, ap, ◌∙◌, subst, sym}
-use Rattle.a1_base.specs.declared.place.Addr.{Addr}
-use Rattle.farm_node.specs.Cell.{Bytes, loaded_cell}
-use Rattle.farm_node.specs.NodeState.{NodeState}
-use Rattle.farm_node.specs.State.{with_cell, with_objects, CanLoad}
+use Rattle.farm_node.proofs.Common.{◌≡◌, ℕ, ◌<◌, List, [], ◌∷◌, ◌++◌, length, take, Result, Ok, Err, OnErr, sym, refl, ap, ◌∙◌, subst, arith, Addr, Bytes}
+use Rattle.farm_node.proofs.Common.{loaded_cell, NodeState, with_cell, with_objects, CanLoad}
 
 -- what has been loaded of `objects`, and that the rest can be
 pub record IsLoading (p : NodeState) (objects : List (Addr × Bytes)) (now : NodeState) (yielded rest : List (Addr × Bytes)) : Type 0 where

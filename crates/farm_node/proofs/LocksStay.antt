@@ -1,17 +1,8 @@
 -- What holds of locks and pins through entries of others.
-use Rattle.std.proofs.Common.{◌≡◌, ℕ, ◌<◌, ◌≤◌, max, cond, Bool, true, List, [], ◌∷◌, ◌++◌, Option, Some, None, Ok, Err, sym, refl, ap, ◌∙◌, subst, ⊎_elim, arith}
-use Rattle.std.proofs.lemmas.Bool.{ne_eqb}
-use Rattle.a1_base.specs.declared.place.Addr.{Addr}
-use Rattle.a1_base.specs.declared.place.TxnId.{TxnId}
-use Rattle.version_chain.specs.Versions.{newest}
-use Rattle.farm_node.specs.declared.hold.Hold.{Hold}
-use Rattle.farm_node.specs.declared.entry.Entry.{Entry}
-use Rattle.farm_node.specs.declared.entry.Entry.TheVariants.{Made, Open, Shut, Read, Alloc, Lock, Check, Put, Unlock, Collect}
-use Rattle.farm_node.specs.Cell.{Cell, is_open, is_gone}
-use Rattle.farm_node.specs.NodeState.{NodeState, after, begun, replay_from, Lawful, replay}
-use Rattle.farm_node.specs.Story.{Story, story, story_from}
-use Rattle.std.specs.List.{AllByRecursion}
-use Rattle.farm_node.specs.Locks.{IsOther}
+use Rattle.farm_node.proofs.Common.{◌≡◌, ℕ, ◌<◌, ◌≤◌, max, cond, Bool, true, List, [], ◌∷◌, ◌++◌, Option, Some, None, Ok, Err, sym, refl, ap, ◌∙◌, subst}
+use Rattle.farm_node.proofs.Common.{⊎_elim, arith, ne_eqb, AllByRecursion, Addr, TxnId, newest, Hold, Entry, Made, Open, Shut, Read, Alloc, Lock, Check, Put}
+use Rattle.farm_node.proofs.Common.{Unlock, Collect, Cell, is_open, is_gone, NodeState, after, begun, replay_from, replay, Lawful, Story, story_from, story}
+use Rattle.farm_node.proofs.Common.{IsOther}
 use Rattle.farm_node.proofs.Addresses.{and_left}
 use Rattle.farm_node.proofs.Steps.{Keeps, keeps_all}
 use Rattle.farm_node.proofs.Chains.{newest_cut}

@@ -1,16 +1,9 @@
 -- What holds of the puts on an address.
-use Rattle.std.proofs.Common.{◌≡◌, ◌≢◌, ℕ, ◌<◌, ◌≤◌, ◌==◌, cond, Bool, true, false, List, [], ◌∷◌, ◌++◌, filter, Option, Some, None, Ok, sym, refl, ap, ◌∙◌, subst, arith}
-use Rattle.std.proofs.lemmas.Bool.{eq-eqb, eqb-true, eqb-false, ne_eqb}
-use Rattle.a1_base.specs.declared.place.Addr.{Addr}
-use Rattle.a1_base.specs.declared.place.TxnId.{TxnId}
-use Rattle.object_region.specs.Occupancy.{same_addr}
-use Rattle.version_chain.specs.Versions.{Version, version_at}
-use Rattle.farm_node.specs.declared.entry.Start.{Start}
-use Rattle.farm_node.specs.declared.entry.Entry.{Entry}
-use Rattle.farm_node.specs.declared.entry.Entry.TheVariants.{Made, Check}
-use Rattle.farm_node.specs.Cell.{Bytes, found_of, same_txn}
-use Rattle.farm_node.specs.NodeState.{NodeState, FitsCheck, looked_at, Lawful, replay}
-use Rattle.farm_node.specs.Story.{Given, gives, Installed, Story, with_given, with_put, story_after, story_from, nobody, loaded_puts, untold, story_begun, story, versions_of, value_at, number_of, number_of, stamped_bytes}
+use Rattle.farm_node.proofs.Common.{◌≡◌, ◌≢◌, ℕ, ◌<◌, ◌≤◌, ◌==◌, cond, Bool, true, false, List, [], ◌∷◌, ◌++◌, filter, Option, Some, None, Ok, sym, refl, ap}
+use Rattle.farm_node.proofs.Common.{◌∙◌, subst, arith, eq-eqb, eqb-true, eqb-false, ne_eqb, Addr, TxnId, same_addr, Version, version_at, Start, Entry, Made}
+use Rattle.farm_node.proofs.Common.{Check, Bytes, same_txn, found_of, NodeState, FitsCheck, looked_at, replay, Lawful, Given, gives, Installed, Story}
+use Rattle.farm_node.proofs.Common.{with_given, with_put, story_after, story_from, nobody, loaded_puts, untold, story_begun, story, versions_of, stamped_bytes}
+use Rattle.farm_node.proofs.Common.{value_at, number_of}
 use Rattle.a1_base.specs.Lists.{entries_of}
 use Rattle.farm_node.specs.Puts.{PutsHold}
 use Rattle.farm_node.proofs.Sound.{txn_eq, sound}

@@ -1,18 +1,10 @@
 -- What is read stays so, and pins keep what they show.
-use Rattle.std.proofs.Common.{◌≡◌, ℕ, ◌≤◌, nat_lt, cond, Bool, true, false, List, ◌∷◌, ◌++◌, Option, Some, None, Result, Ok, Err, sym, refl, ap, ◌∙◌, subst, arith}
-use Rattle.a1_base.specs.declared.place.Addr.{Addr}
-use Rattle.a1_base.specs.declared.place.TxnId.{TxnId}
-use Rattle.object_region.specs.Occupancy.{same_addr}
-use Rattle.version_chain.specs.Versions.{Version, version_at, newest}
-use Rattle.farm_node.specs.declared.hold.Hold.{Hold}
-use Rattle.farm_node.specs.declared.entry.Found.{Found}
-use Rattle.farm_node.specs.declared.entry.Placed.{Placed}
-use Rattle.farm_node.specs.declared.entry.Entry.{Entry}
-use Rattle.farm_node.specs.declared.entry.Entry.TheVariants.{Read, Alloc}
-use Rattle.farm_node.specs.Cell.{Bytes, Cell, found_of, found_at, read_answer, raised_to, past_raised, made_by}
-use Rattle.farm_node.specs.NodeState.{NodeState, set_cell, looked_at, after, LawfulFrom, Lawful, replay}
-use Rattle.farm_node.specs.Story.{gives, Installed, Story, with_given, story_after, story_from, story, versions_of, value_at, stamped_bytes}
-use Rattle.farm_node.specs.Laws.{versions_there, ReadsHold, PinsHold}
+use Rattle.farm_node.proofs.Common.{◌≡◌, ℕ, ◌≤◌, nat_lt, cond, Bool, true, false, List, ◌∷◌, ◌++◌, Option, Some, None, Result, Ok, Err, sym, refl, ap, ◌∙◌}
+use Rattle.farm_node.proofs.Common.{subst, arith, Addr, TxnId, same_addr, Version, version_at, newest, Hold, Found, Placed, Entry, Read, Alloc, Bytes, Cell}
+use Rattle.farm_node.proofs.Common.{found_of, found_at, read_answer, raised_to, past_raised, made_by, NodeState, set_cell, looked_at, after, LawfulFrom, replay}
+use Rattle.farm_node.proofs.Common.{Lawful, gives, Installed, Story, with_given, story_after, story_from, story, versions_of, stamped_bytes, value_at}
+use Rattle.farm_node.proofs.Common.{versions_there}
+use Rattle.farm_node.specs.Laws.{ReadsHold, PinsHold}
 use Rattle.farm_node.proofs.Addresses.{same_self}
 use Rattle.farm_node.proofs.Sound.{Sound, sound, sound_end, pinned}
 use Rattle.farm_node.proofs.Steps.{Keeps, keeps_all, no_cell}

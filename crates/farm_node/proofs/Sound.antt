@@ -1,20 +1,12 @@
 -- What every state of a lawful list keeps as a whole: the places of its objects, its pins, and the range of its stamps.
-use Rattle.std.proofs.Common.{◌≡◌, ◌≢◌, ℕ, zero, suc, ◌<◌, ◌≤◌, nat_le, nat_lt, eqb, max, min, cond, Bool, true, false, ◌&&◌, List, [], ◌∷◌, Option, Some, None, Ok, Err, sym, refl, ap, ◌∙◌, subst, inl, inr, ⊎_elim, arith}
-use Rattle.std.proofs.lemmas.Bool.{eq-eqb, eqb-true}
+use Rattle.farm_node.proofs.Common.{◌≡◌, ◌≢◌, ℕ, zero, suc, ◌<◌, ◌≤◌, nat_le, nat_lt, eqb, max, min, cond, Bool, true, false, ◌&&◌, List, [], ◌∷◌, Option, Some}
+use Rattle.farm_node.proofs.Common.{None, Ok, Err, sym, refl, ap, ◌∙◌, subst, inl, inr, ⊎_elim, arith, eq-eqb, eqb-true, Addr, TxnId, IsAmong, IsStamp, width}
+use Rattle.farm_node.proofs.Common.{same_addr, add_region, Version, cut, Start, Entry, Made, Open, Shut, Read, Alloc, Lock, Check, Put, Unlock, Collect, Bytes}
+use Rattle.farm_node.proofs.Common.{Cell, same_txn, raised_to, past_raised, loaded_cell, locked_by, installed, released, past_released, goes, collected}
+use Rattle.farm_node.proofs.Common.{past_collected, NodeState, set_cell, set_pin, places_in, places, lesser, least_pin, new_floor, past_over, PinnedBy, Fits}
+use Rattle.farm_node.proofs.Common.{looked_at, after, loaded_cells, loaded_regions, begun, Loads, IsStart, replay_from, LawfulFrom, replay, Lawful, StampsBelow}
 use mathlib.Core.Logic.{dite}
 use native.Mathlib.Decide.{ℕ_discrete}
-use Rattle.a1_base.specs.declared.place.Addr.{Addr}
-use Rattle.a1_base.specs.declared.place.TxnId.{TxnId}
-use Rattle.object_region.specs.Occupancy.{width, same_addr, add_region}
-use Rattle.a1_base.specs.Lists.{IsAmong}
-use Rattle.version_chain.specs.Versions.{Version, cut}
-use Rattle.farm_node.specs.declared.entry.Start.{Start}
-use Rattle.farm_node.specs.declared.entry.Entry.{Entry}
-use Rattle.farm_node.specs.declared.entry.Entry.TheVariants.{Made, Open, Shut, Read, Alloc, Lock, Check, Put, Unlock, Collect}
-use Rattle.farm_node.specs.Cell.{Bytes, Cell, same_txn, raised_to, past_raised, locked_by, installed, released, past_released, goes, collected, past_collected, loaded_cell}
-use Rattle.farm_node.specs.NodeState.{NodeState, set_cell, set_pin, places_in, places, lesser, least_pin, new_floor, past_over, PinnedBy, Fits, looked_at, after, loaded_cells, loaded_regions, begun, Loads, IsStart, replay_from, LawfulFrom, replay, Lawful}
-use Rattle.a1_base.specs.Stamps.{IsStamp}
-use Rattle.farm_node.specs.Locks.{StampsBelow}
 use Rattle.farm_node.proofs.Addresses.{and_left, and_right, addr_eq}
 
 pub txn_eq : (t u : TxnId) → same_txn t u ≡ true → t ≡ u

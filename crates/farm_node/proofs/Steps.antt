@@ -1,23 +1,11 @@
 -- What an event does to one address, said once.
-use Rattle.std.proofs.Common.{◌≡◌, ◌⊎◌, ℕ, ◌<◌, ◌≤◌, nat_lt, max, cond, Bool, true, false, List, [], ◌∷◌, Option, Some, None, Result, Ok, Err, is_some, sym, refl, ap, ◌∙◌, subst, inl, inr, ⊎_elim, arith}
-use Rattle.std.proofs.lemmas.Bool.{ltb-true, ltb-false}
-use Rattle.a1_base.specs.declared.place.Addr.{Addr}
-use Rattle.a1_base.specs.declared.place.TxnId.{TxnId}
-use Rattle.object_region.specs.Occupancy.{same_addr}
-use Rattle.version_chain.specs.Versions.{Version, newest, cut}
-use Rattle.farm_node.specs.declared.hold.Hold.{Hold}
-use Rattle.farm_node.specs.declared.entry.Found.{Found}
-use Rattle.farm_node.specs.declared.entry.Locked.{Locked}
-use Rattle.farm_node.specs.declared.entry.Placed.{Placed}
-use Rattle.farm_node.specs.declared.entry.CheckFault.{CheckFault}
-use Rattle.farm_node.specs.declared.entry.CheckFault.TheVariants.{Held, Changed}
-use Rattle.farm_node.specs.declared.entry.Entry.{Entry}
-use Rattle.farm_node.specs.declared.entry.Entry.TheVariants.{Made, Open, Shut, Read, Alloc, Lock, Check, Put, Unlock, Collect}
-use Rattle.farm_node.specs.Cell.{Bytes, Cell, same_txn, found_at, read_answer, raised_to, past_raised, made_by, locked_by, lock_given, unless_changed, lock_answer, check_answer, pending_of, installed, released, past_released, goes, collected, past_collected}
-use Rattle.farm_node.specs.NodeState.{NodeState, set_cell, places, new_floor, past_over, HeldBy, HasValue, HeldNew, MayPut, FitsLock, Fits, after, replay_from, LawfulFrom}
-use Rattle.farm_node.specs.Story.{gives, Story, with_given, with_put, story_after, story_from}
-use Rattle.a1_base.specs.Lists.{IsAmong}
-use Rattle.std.specs.List.{AllByRecursion}
+use Rattle.farm_node.proofs.Common.{◌≡◌, ◌⊎◌, ℕ, ◌<◌, ◌≤◌, nat_lt, max, cond, Bool, true, false, List, [], ◌∷◌, Option, Some, None, Result, Ok, Err, is_some}
+use Rattle.farm_node.proofs.Common.{sym, refl, ap, ◌∙◌, subst, inl, inr, ⊎_elim, arith, ltb-true, ltb-false, AllByRecursion, Addr, TxnId, IsAmong, same_addr}
+use Rattle.farm_node.proofs.Common.{Version, newest, cut, Hold, Found, Placed, Locked, CheckFault, Held, Changed, Entry, Made, Open, Shut, Read, Alloc, Lock}
+use Rattle.farm_node.proofs.Common.{Check, Put, Unlock, Collect, Bytes, Cell, is_open, same_txn, found_at, read_answer, raised_to, past_raised, made_by}
+use Rattle.farm_node.proofs.Common.{locked_by, unless_changed, lock_given, lock_answer, check_answer, pending_of, installed, released, past_released, goes}
+use Rattle.farm_node.proofs.Common.{collected, past_collected, NodeState, set_cell, places, new_floor, past_over, HeldBy, HeldNew, HasValue, MayPut, FitsLock}
+use Rattle.farm_node.proofs.Common.{Fits, after, replay_from, LawfulFrom, gives, Story, with_given, with_put, story_after, story_from}
 use Rattle.farm_node.proofs.Addresses.{addr_eq}
 use Rattle.farm_node.proofs.Sound.{txn_eq, Here, Sits, Lies, among_all, Sound, sound, pinned}
 

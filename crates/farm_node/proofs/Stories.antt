@@ -1,18 +1,9 @@
 -- What the state at one address knows of the address's whole story.
-use Rattle.std.proofs.Common.{◌≡◌, ℕ, ◌<◌, ◌≤◌, nat_le, max, cond, Bool, true, false, List, [], ◌∷◌, ◌++◌, Option, Some, None, sym, refl, ap, ◌∙◌, subst, arith}
-use Rattle.a1_base.specs.declared.place.Addr.{Addr}
-use Rattle.a1_base.specs.declared.place.TxnId.{TxnId}
-use Rattle.object_region.specs.Occupancy.{same_addr}
-use Rattle.version_chain.specs.Versions.{Version, version_at, newest, Falls}
-use Rattle.farm_node.specs.declared.hold.Hold.{Hold}
-use Rattle.farm_node.specs.declared.entry.Start.{Start}
-use Rattle.farm_node.specs.declared.entry.Entry.{Entry}
-use Rattle.farm_node.specs.declared.entry.Entry.TheVariants.{Made}
-use Rattle.farm_node.specs.Cell.{Bytes, Cell, found_of, found_at, pending_of, is_open, is_gone, loaded_cell}
-use Rattle.farm_node.specs.NodeState.{NodeState, after, loaded_cells, begun, replay_from, LawfulFrom, replay, Lawful}
-use Rattle.farm_node.specs.Story.{gives, Installed, Story, with_given, story_after, story_from, loaded_puts, story_begun, story, nobody, versions_of, stamped_bytes}
-use Rattle.farm_node.specs.Laws.{versions_there}
-use Rattle.std.specs.List.{AllByRecursion}
+use Rattle.farm_node.proofs.Common.{◌≡◌, ℕ, ◌<◌, ◌≤◌, nat_le, max, cond, Bool, true, false, List, [], ◌∷◌, ◌++◌, Option, Some, None, sym, refl, ap, ◌∙◌, subst}
+use Rattle.farm_node.proofs.Common.{arith, AllByRecursion, Addr, TxnId, same_addr, Version, version_at, newest, Falls, Hold, Start, Entry, Made, Bytes, Cell}
+use Rattle.farm_node.proofs.Common.{is_open, found_of, found_at, loaded_cell, pending_of, is_gone, NodeState, after, loaded_cells, begun, replay_from}
+use Rattle.farm_node.proofs.Common.{LawfulFrom, replay, Lawful, gives, Installed, Story, with_given, story_after, story_from, nobody, loaded_puts, story_begun}
+use Rattle.farm_node.proofs.Common.{story, versions_of, stamped_bytes, versions_there}
 use Rattle.farm_node.proofs.Addresses.{and_right}
 use Rattle.farm_node.proofs.Sound.{txn_self, Sound, sound_begun, sound_end}
 use Rattle.farm_node.proofs.Steps.{Keeps, keeps_all}

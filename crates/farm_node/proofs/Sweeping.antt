@@ -1,16 +1,13 @@
 -- A collection address by address is the collection of the whole node.
-use Rattle.std.proofs.Common.{◌≡◌, ◌⊎◌, ℕ, suc, ◌+◌, ◌-◌, ◌^◌, ◌<◌, ◌≤◌, nat_le, leb, max, min, cond, Bool, true, false, not, ◌||◌, ◌&&◌, List, [], ◌∷◌, ◌++◌, length, take, Option, Some, None, sym, refl, ap, ◌∙◌, subst, inl, inr, ⊎_elim, arith, length-append}
+use Rattle.farm_node.proofs.Common.{◌≡◌, ◌⊎◌, ℕ, suc, ◌+◌, ◌-◌, ◌^◌, ◌<◌, ◌≤◌, nat_le, leb, max, min, cond, Bool, true, false, not, ◌&&◌, ◌||◌, List, [], ◌∷◌}
+use Rattle.farm_node.proofs.Common.{◌++◌, length, take, Option, Some, None, is_some, sym, refl, ap, ◌∙◌, subst, inl, inr, ⊎_elim, arith, list_any, Addr}
+use Rattle.farm_node.proofs.Common.{IsAmong, width, same_addr, Occupancy, Rises, Version, cut, Cell, is_open, is_absent, is_gone, goes, is_single, collected}
+use Rattle.farm_node.proofs.Common.{past_collected, objects_in, versions_in, NodeState, set_cell, places, total, object_count, version_count, past_over}
+use Rattle.farm_node.proofs.Common.{after_collect, counted, settled_there, goes_there, SweepsNext, collected_at}
+use Rattle.std.proofs.Common.{length-append}
 use mir.Val.{bool_byte}
 use Rattle.std.proofs.lemmas.List.{take-append-le}
-use Rattle.std.specs.Option.{is_some}
-use Rattle.std.specs.List.{list_any}
-use Rattle.a1_base.specs.declared.place.Addr.{Addr}
-use Rattle.object_region.specs.Occupancy.{width, same_addr, Rises, Occupancy, IsOccupancy}
-use Rattle.a1_base.specs.Lists.{IsAmong}
-use Rattle.version_chain.specs.Versions.{Version, cut}
-use Rattle.farm_node.specs.Cell.{Cell, is_absent, is_open, is_gone, is_single, goes, collected, past_collected, objects_in, versions_in}
-use Rattle.farm_node.specs.NodeState.{NodeState, set_cell, places, total, past_over, after_collect, counted, object_count, version_count}
-use Rattle.farm_node.specs.State.{settled_there, goes_there, SweepsNext, collected_at}
+use Rattle.object_region.specs.Occupancy.{IsOccupancy}
 use Rattle.farm_node.proofs.Addresses.{and_right, addr_eq, same_self}
 use Rattle.farm_node.proofs.CellMaps.{unset}
 use Rattle.farm_node.proofs.Totals.{gone_cut, total_set, past_over_set}

@@ -1,17 +1,13 @@
 -- Collecting at one address after another.
-use Rattle.std.proofs.Common.{◌≡◌, ◌⊎◌, ℕ, ◌+◌, max, cond, Bool, true, false, not, ◌||◌, List, [], ◌∷◌, ◌++◌, Option, Some, None, sym, refl, ap, ◌∙◌, subst, inl, inr}
-use Rattle.std.specs.Option.{is_some}
-use Rattle.std.specs.List.{list_any}
-use Rattle.std.specs.BTreeMap.{BTreeMap}
-use Rattle.a1_base.specs.declared.place.Addr.{Addr}
-use Rattle.object_region.specs.Occupancy.{same_addr, Occupancy, without_place}
-use Rattle.version_chain.specs.Versions.{cut}
+use Rattle.farm_node.proofs.Common.{◌≡◌, ◌⊎◌, ℕ, ◌+◌, max, cond, Bool, true, false, not, ◌||◌, List, [], ◌∷◌, ◌++◌, Option, Some, None, is_some, sym, refl, ap}
+use Rattle.farm_node.proofs.Common.{◌∙◌, subst, inl, inr, or_right, BTreeMap, list_any, Addr, same_addr, Occupancy, cut, Cell, goes, collected, past_collected}
+use Rattle.farm_node.proofs.Common.{versions_in, NodeState, set_cell, places, cells_of, plain_from, AgreesWith, IsTracked, settled_there, goes_there}
+use Rattle.farm_node.proofs.Common.{bound_there, SweepsCell, SweepsNext}
+use Rattle.object_region.specs.Occupancy.{without_place}
 use Rattle.farm_node.specs.declared.swept.Swept.{Swept}
-use Rattle.farm_node.specs.Cell.{Cell, goes, collected, past_collected, versions_in}
-use Rattle.farm_node.specs.NodeState.{NodeState, set_cell}
-use Rattle.farm_node.specs.State.{cells_of, plain_from, AgreesWith, IsTracked, settled_there, goes_there, bound_there, past_with, SweepsCell, SweepsNext}
+use Rattle.farm_node.specs.State.{past_with}
 use Rattle.farm_node.proofs.Addresses.{addr_eq, same_self}
-use Rattle.farm_node.proofs.CellMaps.{agrees_set, agrees_without, or_right}
+use Rattle.farm_node.proofs.CellMaps.{agrees_set, agrees_without}
 
 pub agrees_swept : (objects later : BTreeMap Addr Cell) (places places' : Occupancy) (a : Addr) (floor : ℕ) (swept : Swept) → AgreesWith objects places
     → cells_of later ≡ set_cell a (collected floor (cells_of objects a)) (cells_of objects) → SweepsCell floor (cells_of objects a) swept

@@ -1,20 +1,16 @@
 -- Totals over all places of a node, where one address changes.
-use Rattle.std.proofs.Common.{◌≡◌, ◌⊎◌, Ordering, ℕ, zero, suc, ◌+◌, ◌<◌, ◌≤◌, max, cond, Bool, true, false, ◌&&◌, leb, List, [], ◌∷◌, Option, Some, None, sym, refl, ap, ◌∙◌, subst, inl, inr, arith}
-use Rattle.std.specs.BTreeMap.{BTreeMap, IsOrdered, is_at}
-use Rattle.std.specs.List.{AllByRecursion}
+use Rattle.farm_node.proofs.Common.{◌≡◌, ◌⊎◌, ℕ, zero, suc, ◌+◌, ◌<◌, ◌≤◌, leb, max, cond, Bool, true, false, ◌&&◌, List, [], ◌∷◌, Option, Some, None, sym}
+use Rattle.farm_node.proofs.Common.{refl, ap, ◌∙◌, subst, inl, inr, arith, BTreeMap, AllByRecursion, Addr, IsAmong, width, same_addr, Rises, Version, cut, Cell}
+use Rattle.farm_node.proofs.Common.{is_open, is_gone, goes, collected, past_collected, set_cell, places_in, places, total, past_over, cells_of}
+use Rattle.std.proofs.Common.{Ordering}
+use Rattle.std.specs.BTreeMap.{IsOrdered, is_at}
 use Rattle.std.specs.List.Sorted.{IsStrictlySortedBy}
 use Rattle.std.specs.Map.{lookup, keys_of}
 use Rattle.std.specs.Ordering.{is_eq}
 use Rattle.std.specs.declared.cmp.Ordering.TheVariants.{Less}
 use Rattle.std.proofs.lemmas.Bool.{false_from_ne_true, true≢false, cases_eq}
 use Rattle.std.proofs.lemmas.Map.Keys.{sorted_head, sorted_tail}
-use Rattle.a1_base.specs.declared.place.Addr.{Addr}
-use Rattle.object_region.specs.Occupancy.{width, addr_order, same_addr, IsBelow, Rises}
-use Rattle.a1_base.specs.Lists.{IsAmong}
-use Rattle.version_chain.specs.Versions.{Version, cut}
-use Rattle.farm_node.specs.Cell.{Cell, collected, past_collected, goes, is_gone, is_open}
-use Rattle.farm_node.specs.NodeState.{set_cell, places_in, places, total, past_over}
-use Rattle.farm_node.specs.State.{cells_of}
+use Rattle.object_region.specs.Occupancy.{addr_order, IsBelow}
 use Rattle.farm_node.proofs.Addresses.{addr_eq, same_self}
 
 -- how often an address stands in a list

@@ -383,9 +383,7 @@ impl Node {
     {
         let mut versions: u64 = 0;
         let mut objects: u64 = 0;
-        if self.places.regions() == 0 {
-            return (versions, objects);
-        }
+        prove!(self.places.regions() <= u32::MAX);
         let count = self.touched.len();
         for _ in 0..count {
             let (removed, gone) = self.sweep_next(floor);
@@ -415,9 +413,7 @@ impl Node {
         ensures versions { result.1 ≡ counted (version_count (plain_of self.now)) }
     {
         let mut versions: u64 = 0;
-        if self.places.regions() == 0 {
-            return (0, versions);
-        }
+        prove!(self.places.regions() <= u32::MAX);
         for object in self.objects.values() {
             versions = versions.saturating_add(object.len());
         }

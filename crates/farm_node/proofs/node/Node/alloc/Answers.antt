@@ -1,5 +1,4 @@
-use Rattle.std.proofs.Common.{refl}
-use Rattle.object_region.specs.Regions.{occupancy_of}
+use Rattle.farm_node.proofs.Common.{refl, occupancy_of}
 use Rattle.farm_node.proofs.CellMaps.{agrees_cells}
 use Rattle.farm_node.proofs.node.Node.alloc.Goals as goal
 

@@ -1,19 +1,8 @@
-use Rattle.std.proofs.Common.{◌∙◌, ap, sym, refl, arith}
+use Rattle.farm_node.proofs.Common.{sym, refl, ap, ◌∙◌, arith, occupancy_of, counted, plain_of}
 use Rattle.std.specs.BTreeMap.{values}
-use Rattle.object_region.specs.Regions.{occupancy_of}
-use Rattle.farm_node.specs.NodeState.{counted}
-use Rattle.farm_node.specs.Node.{plain_of}
-use Rattle.farm_node.proofs.Counts.{lengths, versions_are, objects_are, none_counted, count_begins, count_more, count_ends}
-use Rattle.farm_node.proofs.Sweeping.{placed_by, no_regions}
+use Rattle.farm_node.proofs.Counts.{lengths, versions_are, objects_are, count_begins, count_more, count_ends}
+use Rattle.farm_node.proofs.Sweeping.{placed_by}
 use Rattle.farm_node.proofs.node.Node.counts.Goals as goal
-
-pub returns-then-regions-eq0-clause-objects : goal.returns-then-regions-eq0-clause-objects
-returns-then-regions-eq0-clause-objects c =
-    sym (ap counted (none_counted (plain_of c.args.self.now) (no_regions c.regions.result (occupancy_of c.args.self.now.places).regions c.regions.ensures.count c.if-regions-eq0.true)).0)
-
-pub returns-then-regions-eq0-clause-versions : goal.returns-then-regions-eq0-clause-versions
-returns-then-regions-eq0-clause-versions c =
-    sym (ap counted (none_counted (plain_of c.args.self.now) (no_regions c.regions.result (occupancy_of c.args.self.now.places).regions c.regions.ensures.count c.if-regions-eq0.true)).1)
 
 pub loop-object-init : goal.loop-object-init
 loop-object-init c = record {

@@ -1,6 +1,4 @@
-use Rattle.std.proofs.Common.{None, refl, sym, ◌∙◌}
-use Rattle.object_region.specs.Regions.{occupancy_of}
-use Rattle.farm_node.specs.State.{cells_of}
+use Rattle.farm_node.proofs.Common.{None, sym, refl, ◌∙◌, occupancy_of, cells_of}
 use Rattle.farm_node.proofs.CellMaps.{agrees_without, agrees_cells, tracked_set, tracked_cells, unset, none_given_back}
 use Rattle.farm_node.proofs.node.Node.give_back.Goals as goal
 

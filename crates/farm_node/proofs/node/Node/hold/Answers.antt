@@ -1,10 +1,5 @@
-use Rattle.std.proofs.Common.{Some, ap}
-use Rattle.std.specs.Option.{is_some}
-use Rattle.std.specs.List.{list_any}
-use Rattle.object_region.specs.Occupancy.{same_addr}
-use Rattle.farm_node.specs.State.{settled_there}
-use Rattle.object_region.specs.Regions.{occupancy_of}
-use Rattle.farm_node.proofs.CellMaps.{cells_written, agrees_set, tracked_set, or_right, hold_refused}
+use Rattle.farm_node.proofs.Common.{Some, is_some, ap, or_right, list_any, occupancy_of, same_addr, settled_there}
+use Rattle.farm_node.proofs.CellMaps.{cells_written, agrees_set, tracked_set, hold_refused}
 use Rattle.farm_node.proofs.node.Node.hold.Goals as goal
 
 pub invariant_of-self-clause-agrees : goal.invariant_of-self-clause-agrees

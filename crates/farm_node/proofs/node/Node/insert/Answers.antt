@@ -1,4 +1,4 @@
-use Rattle.object_region.specs.Regions.{occupancy_of}
+use Rattle.farm_node.proofs.Common.{occupancy_of}
 use Rattle.farm_node.proofs.CellMaps.{agrees_inserted, tracked_inserted, plain_inserted, plain_refused}
 use Rattle.farm_node.proofs.node.Node.insert.Goals as goal
 

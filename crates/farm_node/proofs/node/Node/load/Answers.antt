@@ -1,7 +1,5 @@
-use Rattle.std.proofs.Common.{◌≡◌, ℕ, refl, sym, subst, take}
+use Rattle.farm_node.proofs.Common.{◌≡◌, ℕ, take, sym, refl, subst, with_objects, CanLoad, plain_of}
 use Rattle.std.specs.Vec.Iter.{into_iter_items}
-use Rattle.farm_node.specs.State.{with_objects, CanLoad}
-use Rattle.farm_node.specs.Node.{plain_of}
 use Rattle.farm_node.proofs.Loads.{IsLoading, loading_more, loading_front, loading_done, none_left, on_err}
 use Rattle.farm_node.proofs.Standing.{loads}
 use Rattle.farm_node.proofs.node.Node.load.Goals as goal

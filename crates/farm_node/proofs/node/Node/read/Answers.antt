@@ -1,6 +1,4 @@
-use Rattle.std.proofs.Common.{Some, ap}
-use Rattle.std.specs.Option.{is_some}
-use Rattle.object_region.specs.Regions.{occupancy_of}
+use Rattle.farm_node.proofs.Common.{Some, is_some, ap, occupancy_of}
 use Rattle.farm_node.proofs.CellMaps.{cells_written, agrees_set, tracked_kept}
 use Rattle.farm_node.proofs.Events.{read_there, reads_settled}
 use Rattle.farm_node.proofs.node.Node.read.Goals as goal

@@ -1,13 +1,6 @@
-use Rattle.std.proofs.Common.{◌≤◌, ◌+◌, ◌-◌, refl, sym, subst, ap, ◌∙◌, arith}
-use Rattle.object_region.specs.Regions.{occupancy_of}
-use Rattle.farm_node.specs.Node.{plain_of}
-use Rattle.farm_node.proofs.Sweeping.{sweeping_begins, sweeping_more, sweeping_ends, empty_fixed, placed_by, no_regions, byte_is, byte_at_most_one}
+use Rattle.farm_node.proofs.Common.{◌+◌, ◌-◌, ◌≤◌, sym, refl, ap, ◌∙◌, subst, arith, occupancy_of, plain_of}
+use Rattle.farm_node.proofs.Sweeping.{sweeping_begins, sweeping_more, sweeping_ends, placed_by, byte_is, byte_at_most_one}
 use Rattle.farm_node.proofs.node.Node.sweep.Goals as goal
-
-pub returns-then-regions-eq0-clause-swept : goal.returns-then-regions-eq0-clause-swept
-returns-then-regions-eq0-clause-swept c =
-    empty_fixed c.args.floor (plain_of c.args.self.now) (placed_by (plain_of c.args.self.now) (occupancy_of c.args.self.now.places) c.regions.ensures.sound refl c.args.self.now.agrees)
-    (no_regions c.regions.result (occupancy_of c.args.self.now.places).regions c.regions.ensures.count c.if-regions-eq0.true)
 
 pub loop-init : goal.loop-init
 loop-init c = record {

@@ -1,4 +1,4 @@
-use Rattle.object_region.specs.Regions.{occupancy_of}
+use Rattle.farm_node.proofs.Common.{occupancy_of}
 use Rattle.farm_node.proofs.Sweeps.{agrees_swept, tracked_swept, sweeps_next}
 use Rattle.farm_node.proofs.node.Node.sweep_next.Goals as goal
 
