@@ -1,9 +1,8 @@
 -- Lists of versions, and of puts as versions.
 use Rattle.farm_node.proofs.Common.{◌≡◌, ℕ, ◌<◌, ◌≤◌, nat_le, cond, Bool, true, false, List, [], ◌∷◌, Option, Some, None, sym, refl, ap, ◌∙◌, subst, ⊎_elim}
-use Rattle.farm_node.proofs.Common.{arith, leb-true, IsAmong, Version, version_at, newest, cut, Falls, Bytes, found_of, found_at, is_absent, is_gone, Installed}
-use Rattle.farm_node.proofs.Common.{version_of, versions_of, stamped_bytes}
+use Rattle.farm_node.proofs.Common.{arith, and_parts, leb-true, IsAmong, Version, version_at, newest, cut, Falls, Bytes, found_of, found_at, is_absent, is_gone}
+use Rattle.farm_node.proofs.Common.{Installed, version_of, versions_of, stamped_bytes}
 use Rattle.std.proofs.lemmas.Bool.{le-leb, lt-leb}
-use Rattle.farm_node.proofs.Addresses.{and_left, and_right}
 
 -- versions
 
@@ -32,9 +31,9 @@ newest_cut floor (v ∷ vs) = elim (nat_le v.0 floor) as (λ g. newest (cond g (
 pub gone_at : (floor s : ℕ) (vs : List Version) → floor ≤ s → is_gone floor vs ≡ true → (stamped_bytes (found_at s vs) ≡ None) × (newest vs ≤ floor)
 gone_at floor s [] le gone = cc
 gone_at floor s (v ∷ vs) le gone =
-    let low : v.0 ≤ floor = leb-true v.0 floor (and_left _ _ gone) in
+    let low : v.0 ≤ floor = leb-true v.0 floor (and_parts _ _ gone).0 in
     let here : v.0 ≤ s = omega arith in
-    (ap (λ (x : Option Version). stamped_bytes (found_of x)) (taken_at s v vs here) ∙ absent v.0 v.1 (and_right _ _ gone), low) where
+    (ap (λ (x : Option Version). stamped_bytes (found_of x)) (taken_at s v vs here) ∙ absent v.0 v.1 (and_parts _ _ gone).1, low) where
       absent : (n : ℕ) (x : Option Bytes) → is_absent x ≡ true → stamped_bytes (found_of (Some (n, x))) ≡ None
       absent n None e = refl
       absent n (Some y) e = cc

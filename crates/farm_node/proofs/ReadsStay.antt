@@ -1,15 +1,17 @@
 -- What is read stays so, and pins keep what they show.
-use Rattle.farm_node.proofs.Common.{◌≡◌, ℕ, ◌≤◌, nat_lt, cond, Bool, true, false, List, ◌∷◌, ◌++◌, Option, Some, None, Result, Ok, Err, sym, refl, ap, ◌∙◌}
-use Rattle.farm_node.proofs.Common.{subst, arith, Addr, TxnId, same_addr, Version, version_at, newest, Hold, Found, Placed, Entry, Read, Alloc, Bytes, Cell}
-use Rattle.farm_node.proofs.Common.{found_of, found_at, read_answer, raised_to, past_raised, made_by, NodeState, set_cell, looked_at, after, LawfulFrom, replay}
-use Rattle.farm_node.proofs.Common.{Lawful, gives, Installed, Story, with_given, story_after, story_from, story, versions_of, stamped_bytes, value_at}
-use Rattle.farm_node.proofs.Common.{versions_there}
+use Rattle.farm_node.proofs.Common.{◌≡◌, ℕ, ◌≤◌, cond, true, false, List, ◌∷◌, ◌++◌, Option, Some, None, Ok, sym, refl, ap, ◌∙◌, subst, arith, Addr, TxnId}
+use Rattle.farm_node.proofs.Common.{same_addr, Version, version_at, Found, Placed, Entry, Read, Alloc, Bytes, Cell, found_of, found_at, read_answer, raised_to}
+use Rattle.farm_node.proofs.Common.{past_raised, made_by, NodeState, set_cell, looked_at, after, LawfulFrom, replay, Lawful, gives, Installed, Story}
+use Rattle.farm_node.proofs.Common.{with_given, story_after, story_from, story, versions_of, stamped_bytes, value_at, versions_there}
 use Rattle.farm_node.specs.Laws.{ReadsHold, PinsHold}
-use Rattle.farm_node.proofs.Addresses.{same_self}
 use Rattle.farm_node.proofs.Sound.{Sound, sound, sound_end, pinned}
 use Rattle.farm_node.proofs.Steps.{Keeps, keeps_all, no_cell}
 use Rattle.farm_node.proofs.Chains.{passed_at}
 use Rattle.farm_node.proofs.Stories.{each_unit, Ends, ends, Stands, stands}
+use Rattle.farm_node.proofs.Addresses.{set_self}
+use Rattle.farm_node.proofs.Replies.{read_cases}
+
+pub use Rattle.farm_node.proofs.Addresses.{set_self}
 
 -- a stamp that is barred sees no later put
 
@@ -55,29 +57,14 @@ raised_bars : (s : ℕ) (c : Option Cell) (past : ℕ) → Barred s (raised_to s
 raised_bars s None past = omega arith
 raised_bars s (Some c) past = omega arith
 
-pub set_self : (a : Addr) (c : Option Cell) (cells : Addr → Option Cell) → set_cell a c cells a ≡ c
-set_self a c cells = ap (λ (g : Bool). cond g c (cells a)) (same_self a)
-
 pub look_bars : (a : Addr) (s : ℕ) (p : NodeState) → Barred s ((looked_at a s p).cells a) (looked_at a s p).past
 look_bars a s p = subst (λ (c : Option Cell). Barred s c (past_raised s (p.cells a) p.past)) (sym (set_self a (raised_to s (p.cells a)) p.cells)) (raised_bars s (p.cells a) p.past)
 
 -- the laws
 
-abbrev found_in : Result Found TxnId → Found
-found_in (Ok found) = found
-found_in (Err by) = found_of None
-
 read_is : (s : ℕ) (c : Option Cell) (found : Found) → Ok found ≡ read_answer s c → found ≡ found_at s (versions_there c)
-read_is s None found due = ap found_in due
-read_is s (Some c) found due = by c.lock due where
-  held : (k : Hold) (g : Bool) → Ok found ≡ cond g (Ok (found_at s c.versions)) (Err k.by) → found ≡ found_at s c.versions
-  held k true due = ap found_in due
-  held k false due = cc
-
-  by : (l : Option Hold) → Ok found ≡ elim l as (λ _. Result Found TxnId) [ None ↦ Ok (found_at s c.versions) | Some h ↦ cond (nat_lt s (newest c.versions)) (Ok (found_at s c.versions)) (Err h.by) ]
-      → found ≡ found_at s c.versions
-  by None due = ap found_in due
-  by (Some k) due = held k (nat_lt s (newest c.versions)) due
+read_is s None found due = cc
+read_is s (Some c) found due = read_cases s c (λ z. Ok found ≡ z → found ≡ found_at s c.versions) (λ free e. cc) (λ k is e. cc) due
 
 read_holds : (before rest : List Entry) (k : ℕ) (a : Addr) (s : ℕ) (found : Found)
     → Lawful (before ++ Read k a s (Ok found) ∷ rest) → value_at (before ++ Read k a s (Ok found) ∷ rest) a s ≡ stamped_bytes found

@@ -1,19 +1,18 @@
 -- What every state of a lawful list keeps as a whole: the places of its objects, its pins, and the range of its stamps.
 use Rattle.farm_node.proofs.Common.{◌≡◌, ◌≢◌, ℕ, zero, suc, ◌<◌, ◌≤◌, nat_le, nat_lt, eqb, max, min, cond, Bool, true, false, ◌&&◌, List, [], ◌∷◌, Option, Some}
-use Rattle.farm_node.proofs.Common.{None, Ok, Err, sym, refl, ap, ◌∙◌, subst, inl, inr, ⊎_elim, arith, eq-eqb, eqb-true, Addr, TxnId, IsAmong, IsStamp, width}
-use Rattle.farm_node.proofs.Common.{same_addr, add_region, Version, cut, Start, Entry, Made, Open, Shut, Read, Alloc, Lock, Check, Put, Unlock, Collect, Bytes}
-use Rattle.farm_node.proofs.Common.{Cell, same_txn, raised_to, past_raised, loaded_cell, locked_by, installed, released, past_released, goes, collected}
+use Rattle.farm_node.proofs.Common.{None, Ok, Err, sym, refl, ap, ◌∙◌, subst, inl, inr, ⊎_elim, arith, cond_both, and_parts, eq-eqb, eqb-true, Addr, TxnId}
+use Rattle.farm_node.proofs.Common.{IsAmong, IsStamp, width, add_region, Version, cut, Start, Entry, Made, Open, Shut, Read, Alloc, Lock, Check, Put, Unlock}
+use Rattle.farm_node.proofs.Common.{Collect, Bytes, Cell, same_txn, raised_to, past_raised, locked_by, installed, released, past_released, goes, collected}
 use Rattle.farm_node.proofs.Common.{past_collected, NodeState, set_cell, set_pin, places_in, places, lesser, least_pin, new_floor, past_over, PinnedBy, Fits}
 use Rattle.farm_node.proofs.Common.{looked_at, after, loaded_cells, loaded_regions, begun, Loads, IsStart, replay_from, LawfulFrom, replay, Lawful, StampsBelow}
 use mathlib.Core.Logic.{dite}
 use native.Mathlib.Decide.{ℕ_discrete}
-use Rattle.farm_node.proofs.Addresses.{and_left, and_right, addr_eq}
+use Rattle.farm_node.proofs.Addresses.{set_cases}
 
 pub txn_eq : (t u : TxnId) → same_txn t u ≡ true → t ≡ u
 txn_eq t u e =
-    let r : t.actor ≡ u.actor = eqb-true t.actor u.actor (and_left _ _ e) in
-    let o : t.number ≡ u.number = eqb-true t.number u.number (and_right _ _ e) in
-    λ i. record { actor = r i; number = o i }
+    let parts = and_parts (eqb t.actor u.actor) (eqb t.number u.number) e in
+    λ i. record { actor = eqb-true t.actor u.actor parts.0 i; number = eqb-true t.number u.number parts.1 i }
 
 pub txn_self : (t : TxnId) → same_txn t t ≡ true
 txn_self t = ap (λ (x : Bool). x && eqb t.number t.number) (eq-eqb t.actor t.actor refl) ∙ eq-eqb t.number t.number refl
@@ -24,10 +23,7 @@ Here X None = Unit {0}
 Here X (Some c) = X c
 
 here_set : (X : Addr → Cell → Type 0) (b a : Addr) (c : Option Cell) (cells : Addr → Option Cell) → Here (X b) c → Here (X a) (cells a) → Here (X a) (set_cell b c cells a)
-here_set X b a c cells at_b at_a = by (same_addr b a) refl where
-  by : (g : Bool) → same_addr b a ≡ g → Here (X a) (cond g c (cells a))
-  by true e = subst (λ (z : Addr). Here (X z) c) (addr_eq b a e) at_b
-  by false e = at_a
+here_set X b a c cells at_b at_a = set_cases (λ z d. Here (X z) d) b a c cells at_b (λ e. at_a)
 
 here_more : (X Y : Cell → Type 0) (c : Option Cell) → ((d : Cell) → X d → Y d) → Here X c → Here Y c
 here_more X Y None f h = h
@@ -112,19 +108,13 @@ past_over_below regions floor cells (b ∷ bs) past sits t = collected_past_belo
 
 in_added : (n : ℕ) (ms : List ℕ) → IsAmong n (add_region n ms)
 in_added n [] = inl refl
-in_added n (m ∷ ms) = by (in_added n ms) (eqb n m) refl (nat_lt n m) where
-  by : IsAmong n (add_region n ms) → (g : Bool) → eqb n m ≡ g → (h : Bool) → IsAmong n (cond g (m ∷ ms) (cond h (n ∷ (m ∷ ms)) (m ∷ add_region n ms)))
-  by more true is h = inl (sym (eqb-true n m is))
-  by more false is true = inl refl
-  by more false is false = inr more
+in_added n (m ∷ ms) = cond_both (eqb n m) _ _ (IsAmong n) (λ is. inl (sym (eqb-true n m is)))
+    (λ e. cond_both (nat_lt n m) _ _ (IsAmong n) (λ low. inl refl) (λ high. inr (in_added n ms)))
 
 in_still : (n k : ℕ) (ms : List ℕ) → IsAmong n ms → IsAmong n (add_region k ms)
 in_still n k [] t = absurd t
-in_still n k (m ∷ ms) t = by (λ x. in_still n k ms x) (eqb k m) (nat_lt k m) where
-  by : (IsAmong n ms → IsAmong n (add_region k ms)) → (g h : Bool) → IsAmong n (cond g (m ∷ ms) (cond h (k ∷ (m ∷ ms)) (m ∷ add_region k ms)))
-  by more true h = t
-  by more false true = inr t
-  by more false false = ⊎_elim (λ e. inl e) (λ x. inr (more x)) t
+in_still n k (m ∷ ms) t = cond_both (eqb k m) _ _ (IsAmong n) (λ is. t)
+    (λ e. cond_both (nat_lt k m) _ _ (IsAmong n) (λ low. inr t) (λ high. ⊎_elim (λ is. inl is) (λ more. inr (in_still n k ms more)) t))
 
 sits_still : (regions : List ℕ) (n : ℕ) (a : Addr) (c : Cell) → Sits regions a c → Sits (add_region n regions) a c
 sits_still regions n a c t = record { lies = (in_still a.region n regions t.lies.0, t.lies.1); bound = t.bound; versions = t.versions }
@@ -183,10 +173,8 @@ pin_collected actors floor k f (Some x) ok le =
     (ok.0, ok.1, omega arith, ok.3)
 
 pin_set : (actors floor k j : ℕ) (x : Option ℕ) (pins : ℕ → Option ℕ) → PinOk actors floor k x → PinOk actors floor j (pins j) → PinOk actors floor j (set_pin k x pins j)
-pin_set actors floor k j x pins at_k at_j = by (eqb k j) refl where
-  by : (g : Bool) → eqb k j ≡ g → PinOk actors floor j (cond g x (pins j))
-  by true e = subst (λ (z : ℕ). PinOk actors floor z x) (eqb-true k j e) at_k
-  by false e = at_j
+pin_set actors floor k j x pins at_k at_j =
+    cond_both (eqb k j) _ _ (PinOk actors floor j) (λ e. subst (λ (z : ℕ). PinOk actors floor z x) (eqb-true k j e) at_k) (λ e. at_j)
 
 pin_opened : (actors floor k c x : ℕ) → 0 < k → k ≤ actors → IsStamp c → IsStamp floor → x ≡ max c floor → PinOk actors floor k (Some x)
 pin_opened actors floor k c x low high stamp stamp' is = (low, high, omega arith, subst (λ (z : ℕ). IsStamp z) (sym is) (less_max c floor _ stamp stamp'))
@@ -240,15 +228,9 @@ sound p (Collect k f removed) fits t = record {
 
 loaded_sits : (m : Start) (heap : List (Addr × Bytes)) → IsStamp m.stamp → Loads m heap → (a : Addr) → Here (Sits (loaded_regions heap) a) (loaded_cells m.stamp heap a)
 loaded_sits m [] low loads a = tt
-loaded_sits m (x ∷ xs) low loads a = by (loaded_sits m xs low loads.2 a) (same_addr x.0 a) refl where
-  by : Here (Sits (loaded_regions xs) a) (loaded_cells m.stamp xs a) → (g : Bool) → same_addr x.0 a ≡ g
-      → Here (Sits (add_region x.0.region (loaded_regions xs)) a) (cond g (Some (loaded_cell m.stamp x.1)) (loaded_cells m.stamp xs a))
-  by more true e = record {
-    lies = subst (λ (z : Addr). Lies (add_region x.0.region (loaded_regions xs)) z) (addr_eq x.0 a e) (in_added x.0.region (loaded_regions xs), loads.0.1);
-    bound = low;
-    versions = (low, tt);
-  }
-  by more false e = here_more (Sits (loaded_regions xs) a) (Sits (add_region x.0.region (loaded_regions xs)) a) (loaded_cells m.stamp xs a) (sits_still (loaded_regions xs) x.0.region a) more
+loaded_sits m (x ∷ xs) low loads a = set_cases (λ z c. Here (Sits (add_region x.0.region (loaded_regions xs)) z) c) x.0 a _ (loaded_cells m.stamp xs)
+    record { lies = (in_added x.0.region (loaded_regions xs), loads.0.1); bound = low; versions = (low, tt) }
+    (λ e. here_more (Sits (loaded_regions xs) a) (Sits (add_region x.0.region (loaded_regions xs)) a) (loaded_cells m.stamp xs a) (sits_still (loaded_regions xs) x.0.region a) (loaded_sits m xs low loads.2 a))
 
 pub sound_begun : (m : Start) → IsStart m → Sound (begun m)
 sound_begun m begins = record { sits = λ a. loaded_sits m m.heap begins.3 begins.4 a; pins = λ k. tt; past = begins.3; floor = begins.3 }

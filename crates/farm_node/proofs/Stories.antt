@@ -1,10 +1,9 @@
 -- What the state at one address knows of the address's whole story.
 use Rattle.farm_node.proofs.Common.{◌≡◌, ℕ, ◌<◌, ◌≤◌, nat_le, max, cond, Bool, true, false, List, [], ◌∷◌, ◌++◌, Option, Some, None, sym, refl, ap, ◌∙◌, subst}
-use Rattle.farm_node.proofs.Common.{arith, AllByRecursion, Addr, TxnId, same_addr, Version, version_at, newest, Falls, Hold, Start, Entry, Made, Bytes, Cell}
-use Rattle.farm_node.proofs.Common.{is_open, found_of, found_at, loaded_cell, pending_of, is_gone, NodeState, after, loaded_cells, begun, replay_from}
-use Rattle.farm_node.proofs.Common.{LawfulFrom, replay, Lawful, gives, Installed, Story, with_given, story_after, story_from, nobody, loaded_puts, story_begun}
-use Rattle.farm_node.proofs.Common.{story, versions_of, stamped_bytes, versions_there}
-use Rattle.farm_node.proofs.Addresses.{and_right}
+use Rattle.farm_node.proofs.Common.{arith, and_parts, AllByRecursion, Addr, TxnId, same_addr, Version, version_at, newest, Falls, Hold, Start, Entry, Made}
+use Rattle.farm_node.proofs.Common.{Bytes, Cell, is_open, found_of, found_at, loaded_cell, pending_of, is_gone, NodeState, after, loaded_cells, begun}
+use Rattle.farm_node.proofs.Common.{replay_from, LawfulFrom, replay, Lawful, gives, Installed, Story, with_given, story_after, story_from, nobody, loaded_puts}
+use Rattle.farm_node.proofs.Common.{story_begun, story, versions_of, stamped_bytes, versions_there}
 use Rattle.farm_node.proofs.Sound.{txn_self, Sound, sound_begun, sound_end}
 use Rattle.farm_node.proofs.Steps.{Keeps, keeps_all}
 use Rattle.farm_node.proofs.Chains.{cut_at, newest_cut, gone_at, BelowAll, below_more, newest_below, Decided}
@@ -115,10 +114,10 @@ tells a = record {
     decided = t.decided;
   };
   went = λ c past past' floor floor' h le more gone high t. record {
-    same = λ s low. let l : floor ≤ s = omega arith in sym (gone_at floor' s c.versions low (and_right (is_open c.lock) (is_gone floor' c.versions) gone)).0 ∙ t.same s l;
+    same = λ s low. let l : floor ≤ s = omega arith in sym (gone_at floor' s c.versions low (and_parts (is_open c.lock) (is_gone floor' c.versions) gone).1).0 ∙ t.same s l;
     waits = tt;
     under = below_more c.bound past' h.puts high t.under;
-    top = let n : newest c.versions ≤ floor' = (gone_at floor' floor' c.versions (same_le floor') (and_right (is_open c.lock) (is_gone floor' c.versions) gone)).1 in
+    top = let n : newest c.versions ≤ floor' = (gone_at floor' floor' c.versions (same_le floor') (and_parts (is_open c.lock) (is_gone floor' c.versions) gone).1).1 in
         below_more (max floor (newest c.versions)) (max floor' 0) h.puts (omega arith) t.top;
     below = tt;
     falls = t.falls;

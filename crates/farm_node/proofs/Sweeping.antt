@@ -1,14 +1,14 @@
 -- A collection address by address is the collection of the whole node.
 use Rattle.farm_node.proofs.Common.{◌≡◌, ◌⊎◌, ℕ, suc, ◌+◌, ◌-◌, ◌^◌, ◌<◌, ◌≤◌, nat_le, leb, max, min, cond, Bool, true, false, not, ◌&&◌, ◌||◌, List, [], ◌∷◌}
-use Rattle.farm_node.proofs.Common.{◌++◌, length, take, Option, Some, None, is_some, sym, refl, ap, ◌∙◌, subst, inl, inr, ⊎_elim, arith, list_any, Addr}
-use Rattle.farm_node.proofs.Common.{IsAmong, width, same_addr, Occupancy, Rises, Version, cut, Cell, is_open, is_absent, is_gone, goes, is_single, collected}
-use Rattle.farm_node.proofs.Common.{past_collected, objects_in, versions_in, NodeState, set_cell, places, total, object_count, version_count, past_over}
-use Rattle.farm_node.proofs.Common.{after_collect, counted, settled_there, goes_there, SweepsNext, collected_at}
+use Rattle.farm_node.proofs.Common.{◌++◌, length, take, Option, Some, None, is_some, sym, refl, ap, ◌∙◌, subst, inl, inr, ⊎_elim, arith, and_parts, list_any}
+use Rattle.farm_node.proofs.Common.{Addr, IsAmong, width, same_addr, Occupancy, Rises, Version, cut, Cell, is_open, is_absent, is_gone, goes, is_single}
+use Rattle.farm_node.proofs.Common.{collected, past_collected, objects_in, versions_in, NodeState, set_cell, places, total, object_count, version_count}
+use Rattle.farm_node.proofs.Common.{past_over, after_collect, counted, settled_there, goes_there, SweepsNext, collected_at}
 use Rattle.std.proofs.Common.{length-append}
 use mir.Val.{bool_byte}
 use Rattle.std.proofs.lemmas.List.{take-append-le}
 use Rattle.object_region.specs.Occupancy.{IsOccupancy}
-use Rattle.farm_node.proofs.Addresses.{and_right, addr_eq, same_self}
+use Rattle.farm_node.proofs.Addresses.{addr_eq, same_self}
 use Rattle.farm_node.proofs.CellMaps.{unset}
 use Rattle.farm_node.proofs.Totals.{gone_cut, total_set, past_over_set}
 
@@ -50,7 +50,7 @@ and_false false y e = refl
 settled_fixed : (floor : ℕ) (o : Option Cell) → settled_there o ≡ true → collected floor o ≡ o
 settled_fixed floor None e = refl
 settled_fixed floor (Some c) e =
-    let single = single_stays floor c.versions (and_right (is_open c.lock) (is_single c.versions) e) in
+    let single = single_stays floor c.versions (and_parts (is_open c.lock) (is_single c.versions) e).1 in
     ap (λ (g : Bool). cond g None (Some (record c { versions = cut floor c.versions }))) (and_false (is_open c.lock) (is_gone floor c.versions) single.0)
     ∙ ap (λ (l : List Version). Some (record c { versions = l })) single.1
 
