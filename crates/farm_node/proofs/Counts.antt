@@ -29,10 +29,6 @@ objects_are objects p same ordered rises placed =
     ap (λ (cells : Addr → Option Cell). total objects_in cells (places p.regions)) same
     ∙ (total_entries objects_in objects p.regions refl ordered rises (λ a c is. placed a c (ap (λ (cells : Addr → Option Cell). cells a) same ∙ is)) ∙ sum_ones objects.entries)
 
--- nothing is counted where no region is made
-pub none_counted : (p : NodeState) → p.regions ≡ [] → (object_count p ≡ 0) × (version_count p ≡ 0)
-none_counted p none = (ap (λ (rs : List ℕ). total objects_in p.cells (places rs)) none, ap (λ (rs : List ℕ). total versions_in p.cells (places rs)) none)
-
 pub count_begins : (left : List Cell) (all : List Cell) → left ≡ all → counted (0 + lengths left) ≡ counted (lengths all)
 count_begins left all e = ap (λ (n : ℕ). counted n) (let z : 0 + lengths left ≡ lengths left = omega arith in z ∙ ap lengths e)
 

@@ -1,17 +1,17 @@
 -- Totals over all places of a node, where one address changes.
 use Rattle.farm_node.proofs.Common.{◌≡◌, ◌⊎◌, ℕ, zero, suc, ◌+◌, ◌<◌, ◌≤◌, leb, max, cond, Bool, true, false, ◌&&◌, List, [], ◌∷◌, Option, Some, None, sym}
-use Rattle.farm_node.proofs.Common.{refl, ap, ◌∙◌, subst, inl, inr, arith, BTreeMap, AllByRecursion, Addr, IsAmong, width, same_addr, Rises, Version, cut, Cell}
-use Rattle.farm_node.proofs.Common.{is_open, is_gone, goes, collected, past_collected, set_cell, places_in, places, total, past_over, cells_of}
+use Rattle.farm_node.proofs.Common.{refl, ap, ◌∙◌, subst, inl, inr, arith, both_ways, BTreeMap, AllByRecursion, Addr, IsAmong, width, same_addr, Rises, Version}
+use Rattle.farm_node.proofs.Common.{cut, Cell, is_open, is_gone, goes, collected, past_collected, set_cell, places_in, places, total, past_over, cells_of}
 use Rattle.std.proofs.Common.{Ordering}
 use Rattle.std.specs.BTreeMap.{IsOrdered, is_at}
 use Rattle.std.specs.List.Sorted.{IsStrictlySortedBy}
 use Rattle.std.specs.Map.{lookup, keys_of}
 use Rattle.std.specs.Ordering.{is_eq}
 use Rattle.std.specs.declared.cmp.Ordering.TheVariants.{Less}
-use Rattle.std.proofs.lemmas.Bool.{false_from_ne_true, true≢false, cases_eq}
+use Rattle.std.proofs.lemmas.Bool.{false_from_ne_true, cases_Bool, cases_eq}
 use Rattle.std.proofs.lemmas.Map.Keys.{sorted_head, sorted_tail}
 use Rattle.object_region.specs.Occupancy.{addr_order, IsBelow}
-use Rattle.farm_node.proofs.Addresses.{addr_eq, same_self}
+use Rattle.farm_node.proofs.Addresses.{addr_eq, same_self, same_turned}
 
 -- how often an address stands in a list
 
@@ -174,18 +174,15 @@ total_nothing : (count : Option Cell → ℕ) (all : List Addr) → count None �
 total_nothing count [] none = refl
 total_nothing count (a ∷ rest) none = let others : total count (λ a. None) rest ≡ 0 = total_nothing count rest none in omega arith
 
-same_turned : (a b : Addr) → same_addr a b ≡ same_addr b a
-same_turned a b = at (same_addr a b) refl where
-  turned : (x y : Addr) → same_addr x y ≡ true → same_addr y x ≡ true
-  turned x y is = ap (λ (z : Addr). same_addr z x) (sym (addr_eq x y is)) ∙ same_self x
-
-  at : (g : Bool) → same_addr a b ≡ g → g ≡ same_addr b a
-  at true is = sym (turned a b is)
-  at false is = sym (false_from_ne_true (same_addr b a) (λ back. true≢false (sym (turned b a back) ∙ is)))
+same_both : (a b : Addr) → same_addr a b ≡ same_addr b a
+same_both a b = elim (cases_Bool (same_addr a b)) as (λ z. same_addr a b ≡ same_addr b a) [
+  | inl is ↦ is ∙ sym (same_turned a b is)
+  | inr apart ↦ apart ∙ sym (false_from_ne_true (same_addr b a) (λ back. both_ways (same_addr a b) apart (same_turned b a back)))
+]
 
 -- the first entry is a change of what the others give
 cells_cons : (e : Addr × Cell) (es : List (Addr × Cell)) → cells_in (e ∷ es) ≡ set_cell e.0 (Some e.1) (cells_in es)
-cells_cons e es = λ i a. ap (λ (g : Bool). cond g (Some e.1) (cells_in es a)) (same_turned a e.0) i
+cells_cons e es = λ i a. ap (λ (g : Bool). cond g (Some e.1) (cells_in es a)) (same_both a e.0) i
 
 -- the key of the first entry is not among the others
 absent_behind : (a : Addr) (es : List (Addr × Cell)) → AllByRecursion (λ b. addr_order a b ≡ Less) (keys_of es) → cells_in es a ≡ None

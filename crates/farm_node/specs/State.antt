@@ -15,9 +15,9 @@ abbrev pub cells_of : BTreeMap Addr Cell → Addr → Option Cell
 cells_of objects a = get addr_order objects a
 
 -- the state of the fields
-abbrev pub plain_from : BTreeMap Addr Cell → Occupancy → List (Option ℕ) → ℕ → ℕ → ℕ → NodeState
-plain_from objects places pins past floor actors = record {
-  cells = cells_of objects;
+abbrev pub plain_from : (Addr → Option Cell) → Occupancy → List (Option ℕ) → ℕ → ℕ → ℕ → NodeState
+plain_from cells places pins past floor actors = record {
+  cells = cells;
   regions = places.regions;
   pins = λ k. slice_index_or pins k None;
   past = past;
@@ -28,8 +28,8 @@ plain_from objects places pins past floor actors = record {
 }
 
 -- a place is taken where an object is there
-abbrev pub AgreesWith : BTreeMap Addr Cell → Occupancy → Type 0
-AgreesWith objects places = (a : Addr) → places.taken a ≡ is_some (cells_of objects a)
+abbrev pub AgreesWith : (Addr → Option Cell) → Occupancy → Type 0
+AgreesWith cells places = (a : Addr) → places.taken a ≡ is_some (cells a)
 
 abbrev pub is_settled_there : Option Cell → Bool
 is_settled_there None = false
@@ -40,8 +40,8 @@ settled_there None = true
 settled_there (Some c) = is_settled c
 
 -- whatever a collection could remove something of, stands in the list of touched addresses
-abbrev pub IsTracked : BTreeMap Addr Cell → List Addr → Type 0
-IsTracked objects touched = (a : Addr) → (settled_there (cells_of objects a) || list_any (same_addr a) touched) ≡ true
+abbrev pub IsTracked : (Addr → Option Cell) → List Addr → Type 0
+IsTracked cells touched = (a : Addr) → (settled_there (cells a) || list_any (same_addr a) touched) ≡ true
 
 -- an object more, by which its region is made
 abbrev pub with_cell : Addr → Cell → NodeState → NodeState

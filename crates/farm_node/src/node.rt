@@ -32,8 +32,8 @@ pub struct Node {
     past: u64,
     floor: u64,
     actors: u32,
-    ghost agrees: { AgreesWith objects (occupancy_of places) },
-    ghost tracked: { IsTracked objects touched.items },
+    ghost agrees: { AgreesWith (cells_of objects) (occupancy_of places) },
+    ghost tracked: { IsTracked (cells_of objects) touched.items },
     ghost numbered: { vec_len pins ≡ actors + 1 },
 }
 

@@ -1,6 +1,7 @@
-use Rattle.farm_node.proofs.Common.{◌≡◌, ℕ, take, sym, refl, subst, with_objects, CanLoad, plain_of}
+use Rattle.farm_node.proofs.Common.{◌≡◌, ℕ, take, sym, refl, ◌∙◌, subst, with_objects, CanLoad, plain_of}
 use Rattle.std.specs.Vec.Iter.{into_iter_items}
-use Rattle.farm_node.proofs.Loads.{IsLoading, loading_more, loading_front, loading_done, none_left, on_err}
+use Rattle.std.proofs.lemmas.List.{nil_from_length}
+use Rattle.farm_node.proofs.Loads.{IsLoading, loading_more, loading_front, loading_done, on_err}
 use Rattle.farm_node.proofs.Standing.{loads}
 use Rattle.farm_node.proofs.node.Node.load.Goals as goal
 
@@ -34,7 +35,7 @@ returns-in_err-load_one-clause-err c =
 pub returns-clause-ok : goal.returns-clause-ok
 returns-clause-ok c =
     loading_done (plain_of c.args.self.now) c.args.objects.items (plain_of c.loop-at.self) c.loop-at.yielded
-    (subst (IsLoading (plain_of c.args.self.now) c.args.objects.items (plain_of c.loop-at.self) c.loop-at.yielded) (none_left _ (into_iter_items c.loop-at.at-iterator) c.loop-at.at-iterator.rest.ok.0 c.in-None.ensures.steps.0) c.loop-at.invariant)
+    (subst (IsLoading (plain_of c.args.self.now) c.args.objects.items (plain_of c.loop-at.self) c.loop-at.yielded) (nil_from_length (into_iter_items c.loop-at.at-iterator) (sym c.loop-at.at-iterator.rest.ok.0 ∙ c.in-None.ensures.steps.0)) c.loop-at.invariant)
 
 pub returns-clause-begins : goal.returns-clause-begins
 returns-clause-begins c = λ m stands. loads c.args.self.now c.loop-at.self m c.args.objects.items stands c.requires.places (returns-clause-ok c)

@@ -1,5 +1,5 @@
 use Rattle.farm_node.proofs.Common.{◌+◌, ◌-◌, ◌≤◌, sym, refl, ap, ◌∙◌, subst, arith, occupancy_of, plain_of}
-use Rattle.farm_node.proofs.Sweeping.{sweeping_begins, sweeping_more, sweeping_ends, placed_by, byte_is, byte_at_most_one}
+use Rattle.farm_node.proofs.Sweeping.{sweeping_begins, sweeping_more, sweeping_ends, placed_by, byte_at_most_one}
 use Rattle.farm_node.proofs.node.Node.sweep.Goals as goal
 
 pub loop-init : goal.loop-init
@@ -15,7 +15,7 @@ loop-preserved c = record {
   sweeping = sweeping_more c.args.floor (plain_of c.args.self.now) (plain_of c.loop.self) (plain_of c.sweep_next-removed.new.self) c.loop.self.touched.items c.sweep_next-removed.new.self.touched.items
       (c.len-count.result - c.loop.counter) (c.len-count.result - (c.loop.counter + 1)) c.loop.versions c.loop.objects c.sweep_next-removed.result c.saturating_add-versions.result (c.loop.objects + c.from-objects.result)
       c.loop.invariant.sweeping (omega arith) c.sweep_next-removed.ensures c.saturating_add-versions.ensures
-      (ap (λ n. c.loop.objects + n) (c.from-objects.ensures ∙ byte_is c.sweep_next-removed.result.1));
+      (ap (λ n. c.loop.objects + n) c.from-objects.ensures);
   few = let b : c.from-objects.result ≤ 1 = subst (λ n. n ≤ 1) (sym c.from-objects.ensures) (byte_at_most_one c.sweep_next-removed.result.1) in omega (arith, c.loop.invariant.few);
 }
 
