@@ -1,8 +1,8 @@
 -- The stamps that lawful entries answer are in range.
 use Rattle.farm_node.proofs.Common.{ℕ, nat_le, cond, true, false, List, [], ◌∷◌, ◌++◌, Option, Some, None, Result, sym, ap, subst, arith, Addr, TxnId, IsStamp}
-use Rattle.farm_node.proofs.Common.{Version, version_at, newest, Found, Locked, Collected, CheckFault, Entry, Made, Open, Shut, Read, Alloc, Lock, Check, Put}
-use Rattle.farm_node.proofs.Common.{Unlock, Collect, Bytes, Cell, found_of, found_at, read_answer, lock_answer, check_answer, NodeState, Fits, replay, Lawful}
-use Rattle.farm_node.proofs.Common.{StampsBelow, AnswersStamps}
+use Rattle.farm_node.proofs.Common.{Version, version_at, newest, Found, Locked, Collected, CheckFault, Entry, Made, Open, Read, Alloc, Lock, Check, Collect}
+use Rattle.farm_node.proofs.Common.{Bytes, Cell, found_of, found_at, read_answer, lock_answer, check_answer, NodeState, Fits, replay, Lawful, StampsBelow}
+use Rattle.farm_node.proofs.Common.{AnswersStamps}
 use Rattle.farm_node.proofs.Sound.{Here, Sits, Sound, sound, less_max}
 use Rattle.farm_node.proofs.Stories.{Stands, stands}
 use Rattle.farm_node.proofs.Replies.{read_cases, lock_cases, check_cases}
@@ -34,16 +34,13 @@ module _ (regions : List ℕ) (a : Addr) where
       (λ above. (found_stamp r c.versions sits.versions, newest_stamp c.versions sits.versions)) (λ is low. tt)
 
 fits_stamps : (p : NodeState) (e : Entry) → Sound p → Fits p e → AnswersStamps e
-fits_stamps p (Made m) t fits = tt
 fits_stamps p (Open k c x) t fits = subst (λ (z : ℕ). IsStamp z) (sym fits.4) (less_max c p.floor _ fits.3 t.floor)
-fits_stamps p (Shut k) t fits = tt
 fits_stamps p (Read k a s answer) t fits = subst (λ (z : Result Found TxnId). AnswersStamps (Read k a s z)) (sym fits.2) (read_stamps p.regions a k s (p.cells a) (t.sits a))
 fits_stamps p (Alloc u r v placed) t fits = subst (λ (z : ℕ). IsStamp z) (sym fits.3) (less_max p.past r _ t.past fits.1)
 fits_stamps p (Lock u a r new answer) t fits = subst (λ (z : Result Locked CheckFault). AnswersStamps (Lock u a r new z)) (sym fits.due) (lock_stamps p.regions a u r new (p.cells a) (t.sits a))
 fits_stamps p (Check u a r w answer) t fits = subst (λ (z : Result (Unit {0}) CheckFault). AnswersStamps (Check u a r w z)) (sym fits.due) (check_stamps p.regions a u r w (p.cells a) (t.sits a))
-fits_stamps p (Put u a w) t fits = tt
-fits_stamps p (Unlock u a) t fits = tt
 fits_stamps p (Collect k f removed) t fits = subst (λ (z : ℕ). IsStamp z) (sym (ap (λ (z : Collected). z.floor) fits.2)) (sound p (Collect k f removed) fits t).floor
+fits_stamps p e t fits = tt
 
 -- `stands` speaks of one address as well; here it may be any
 any_addr : Addr

@@ -1,27 +1,23 @@
 -- Lists of versions, and of puts as versions.
-use Rattle.farm_node.proofs.Common.{◌≡◌, ℕ, ◌<◌, ◌≤◌, nat_le, cond, Bool, true, false, List, [], ◌∷◌, Option, Some, None, sym, refl, ap, ◌∙◌, subst, ⊎_elim}
-use Rattle.farm_node.proofs.Common.{arith, and_parts, leb-true, IsAmong, Version, version_at, newest, cut, Falls, Bytes, found_of, found_at, is_absent, is_gone}
-use Rattle.farm_node.proofs.Common.{Installed, version_of, versions_of, stamped_bytes}
+use Rattle.farm_node.proofs.Common.{◌≡◌, ℕ, ◌<◌, ◌≤◌, nat_le, cond, true, false, List, [], ◌∷◌, Option, Some, None, sym, refl, ap, ◌∙◌, subst, ⊎_elim, arith}
+use Rattle.farm_node.proofs.Common.{cond_both, cond-true, cond-false, and_parts, leb-true, IsAmong, Version, version_at, newest, cut, Falls, Bytes, found_of}
+use Rattle.farm_node.proofs.Common.{found_at, is_absent, is_gone, Installed, version_of, versions_of, stamped_bytes}
 use Rattle.std.proofs.lemmas.Bool.{le-leb, lt-leb}
 
 -- versions
 
 taken_at : (s : ℕ) (v : Version) (vs : List Version) → v.0 ≤ s → version_at s (v ∷ vs) ≡ Some v
-taken_at s v vs le = ap (λ (g : Bool). cond g (Some v) (version_at s vs)) (le-leb v.0 s le)
+taken_at s v vs le = cond-true (nat_le v.0 s) (Some v) (version_at s vs) (le-leb v.0 s le)
 
 pub passed_at : (s : ℕ) (v : Version) (vs : List Version) → s < v.0 → version_at s (v ∷ vs) ≡ version_at s vs
-passed_at s v vs lt = ap (λ (g : Bool). cond g (Some v) (version_at s vs)) (lt-leb v.0 s lt)
+passed_at s v vs lt = cond-false (nat_le v.0 s) (Some v) (version_at s vs) (lt-leb v.0 s lt)
 
 -- a cut keeps what stands at each stamp from the floor on
 pub cut_at : (floor s : ℕ) (vs : List Version) → floor ≤ s → version_at s (cut floor vs) ≡ version_at s vs
 cut_at floor s [] le = refl
-cut_at floor s (v ∷ vs) le = by (nat_le v.0 floor) refl (cut_at floor s vs le) where
-  by : (g : Bool) → nat_le v.0 floor ≡ g → version_at s (cut floor vs) ≡ version_at s vs → version_at s (cond g (v ∷ []) (v ∷ cut floor vs)) ≡ version_at s (v ∷ vs)
-  by true is rest =
-      let low : v.0 ≤ floor = leb-true v.0 floor is in
-      let here : v.0 ≤ s = omega arith in
-      taken_at s v [] here ∙ sym (taken_at s v vs here)
-  by false is rest = ap (λ (x : Option Version). cond (nat_le v.0 s) (Some v) x) rest
+cut_at floor s (v ∷ vs) le = cond_both (nat_le v.0 floor) _ _ (λ l. version_at s l ≡ version_at s (v ∷ vs))
+    (λ is. let low : v.0 ≤ floor = leb-true v.0 floor is in let here : v.0 ≤ s = omega arith in taken_at s v [] here ∙ sym (taken_at s v vs here))
+    (λ is. ap (λ (x : Option Version). cond (nat_le v.0 s) (Some v) x) (cut_at floor s vs le))
 
 pub newest_cut : (floor : ℕ) (vs : List Version) → newest (cut floor vs) ≡ newest vs
 newest_cut floor [] = refl

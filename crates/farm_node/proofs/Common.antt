@@ -1,7 +1,7 @@
 -- The names that most proofs of this crate cite, passed on from one place. Declares nothing.
 pub use Rattle.std.proofs.Common.{◌≡◌, ◌≢◌, ◌⊎◌, ℕ, zero, suc, ◌+◌, ◌-◌, ◌^◌, ◌<◌, ◌≤◌, ◌==◌, nat_le, nat_lt, eqb, leb, max, min, cond, Bool, true, false, not, ◌&&◌, ◌||◌}
 pub use Rattle.std.proofs.Common.{List, [], ◌∷◌, ◌++◌, length, take, filter, Option, Some, None, Result, Ok, Err, is_some, OnOk, OnErr, sym, refl, ap, ◌∙◌, subst, inl, inr, ⊎_elim, arith}
-pub use Rattle.std.proofs.lemmas.Bool.{cond_both, cond-true, cond-false, and_parts, eq-eqb, eqb-true, eqb-false, ne_eqb, ltb-true, ltb-false, leb-true, or_left, or_right, or_cases, both_ways}
+pub use Rattle.std.proofs.lemmas.Bool.{cond_both, cond-true, cond-false, and_parts, eq-eqb, eqb-true, eqb-false, ne_eqb, ltb-true, ltb-false, leb-true, or_left, or_right, or_cases, both_ways, cases_Bool}
 pub use Rattle.std.specs.BTreeMap.{BTreeMap}
 pub use Rattle.std.specs.List.{AllByRecursion, list_any}
 pub use Rattle.a1_base.specs.declared.place.Addr.{Addr}

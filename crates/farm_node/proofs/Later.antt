@@ -1,7 +1,7 @@
 -- The puts of actors: each comes by a lock of an actor, above the stamp of the start.
-use Rattle.farm_node.proofs.Common.{◌≡◌, ◌⊎◌, ℕ, ◌<◌, ◌≤◌, cond, Bool, true, false, List, [], ◌∷◌, Option, Some, None, sym, refl, ◌∙◌, subst, inl, inr, ⊎_elim}
-use Rattle.farm_node.proofs.Common.{arith, Addr, TxnId, IsAmong, same_addr, newest, cut, Hold, Start, Entry, Made, Bytes, Cell, loaded_cell, NodeState}
-use Rattle.farm_node.proofs.Common.{loaded_cells, begun, replay_from, Lawful, Installed, Story, story_from, untold, versions_there}
+use Rattle.farm_node.proofs.Common.{◌≡◌, ◌⊎◌, ℕ, ◌<◌, ◌≤◌, List, [], ◌∷◌, Option, Some, None, sym, refl, ◌∙◌, subst, inl, inr, ⊎_elim, arith, cond_both, Addr}
+use Rattle.farm_node.proofs.Common.{TxnId, IsAmong, same_addr, newest, cut, Hold, Start, Entry, Made, Bytes, Cell, NodeState, loaded_cells, begun, replay_from}
+use Rattle.farm_node.proofs.Common.{Lawful, Installed, Story, story_from, untold, versions_there}
 use Rattle.farm_node.proofs.Sound.{sound_begun}
 use Rattle.farm_node.proofs.Steps.{Keeps, keeps_all}
 use Rattle.farm_node.proofs.Chains.{newest_cut}
@@ -64,10 +64,8 @@ later a start = record {
 
 later_begun : (a : Addr) (stamp : ℕ) (heap : List (Addr × Bytes)) → Later stamp (loaded_cells stamp heap a) stamp stamp untold
 later_begun a stamp [] = record { bar = omega arith; actors = tt; puts = λ i there. absurd there; newest = inl (omega arith) }
-later_begun a stamp (x ∷ xs) = by (later_begun a stamp xs) (same_addr x.0 a) where
-  by : Later stamp (loaded_cells stamp xs a) stamp stamp untold → (g : Bool) → Later stamp (cond g (Some (loaded_cell stamp x.1)) (loaded_cells stamp xs a)) stamp stamp untold
-  by more true = record { bar = omega arith; actors = tt; puts = λ i there. absurd there; newest = inl (omega arith) }
-  by more false = more
+later_begun a stamp (x ∷ xs) = cond_both (same_addr x.0 a) _ _ (λ c. Later stamp c stamp stamp untold)
+    (λ is. record { bar = omega arith; actors = tt; puts = λ i there. absurd there; newest = inl (omega arith) }) (λ e. later_begun a stamp xs)
 
 abbrev pub LaterAt : ℕ → Addr → NodeState → Story → Type 0
 LaterAt start a p h = Later start (p.cells a) p.past p.floor h

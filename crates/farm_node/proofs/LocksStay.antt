@@ -1,8 +1,7 @@
 -- What holds of locks and pins through entries of others.
-use Rattle.farm_node.proofs.Common.{◌≡◌, ℕ, ◌<◌, ◌≤◌, max, cond, Bool, true, List, [], ◌∷◌, ◌++◌, Option, Some, None, Ok, Err, sym, refl, ap, ◌∙◌, subst}
-use Rattle.farm_node.proofs.Common.{⊎_elim, arith, ne_eqb, AllByRecursion, Addr, TxnId, newest, Hold, Entry, Made, Open, Shut, Read, Alloc, Lock, Check, Put}
-use Rattle.farm_node.proofs.Common.{Unlock, Collect, Cell, is_open, is_gone, NodeState, after, begun, replay_from, replay, Lawful, Story, story_from, story}
-use Rattle.farm_node.proofs.Common.{IsOther}
+use Rattle.farm_node.proofs.Common.{◌≡◌, ℕ, ◌<◌, ◌≤◌, ◌==◌, max, true, List, [], ◌∷◌, ◌++◌, Option, Some, None, Ok, sym, refl, ap, ◌∙◌, subst, ⊎_elim, arith}
+use Rattle.farm_node.proofs.Common.{cond-false, ne_eqb, AllByRecursion, Addr, TxnId, newest, Hold, Entry, Made, Open, Shut, Read, Lock, Check, Cell, is_open}
+use Rattle.farm_node.proofs.Common.{is_gone, NodeState, after, begun, replay_from, replay, Lawful, Story, story_from, story, IsOther}
 use Rattle.farm_node.proofs.Addresses.{and_left}
 use Rattle.farm_node.proofs.Steps.{Keeps, keeps_all}
 use Rattle.farm_node.proofs.Chains.{newest_cut}
@@ -74,19 +73,12 @@ stays (e ∷ es) rest a c h lawful is lock others = absurd lawful
 -- a pin through entries of others
 
 pin_after : (p : NodeState) (k : ℕ) (e : Entry) → IsOther k e → (after p e).pins k ≡ p.pins k
-pin_after p k (Made m) other = refl
-pin_after p k (Open j c x) other = ap (λ (g : Bool). cond g (Some x) (p.pins k)) (ne_eqb j k other)
-pin_after p k (Shut j) other = ap (λ (g : Bool). cond g None (p.pins k)) (ne_eqb j k other)
+pin_after p k (Open j c x) other = cond-false (j == k) (Some x) (p.pins k) (ne_eqb j k other)
+pin_after p k (Shut j) other = cond-false (j == k) None (p.pins k) (ne_eqb j k other)
 pin_after p k (Read j b s (Ok found)) other = refl
-pin_after p k (Read j b s (Err by)) other = refl
-pin_after p k (Alloc u r v placed) other = refl
 pin_after p k (Lock u b r new (Ok given)) other = refl
-pin_after p k (Lock u b r new (Err fault)) other = refl
 pin_after p k (Check u b r w (Ok same)) other = refl
-pin_after p k (Check u b r w (Err fault)) other = refl
-pin_after p k (Put u b w) other = refl
-pin_after p k (Unlock u b) other = refl
-pin_after p k (Collect j f removed) other = refl
+pin_after p k e other = refl
 
 pin_from : (p : NodeState) (k : ℕ) (es : List Entry) → AllByRecursion (IsOther k) es → (replay_from p es).pins k ≡ p.pins k
 pin_from p k [] others = refl

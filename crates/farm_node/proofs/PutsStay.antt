@@ -1,9 +1,9 @@
 -- What holds of the puts on an address.
-use Rattle.farm_node.proofs.Common.{◌≡◌, ◌≢◌, ℕ, ◌<◌, ◌≤◌, ◌==◌, cond, Bool, true, false, List, [], ◌∷◌, ◌++◌, filter, Option, Some, None, Ok, sym, refl, ap}
-use Rattle.farm_node.proofs.Common.{◌∙◌, subst, arith, eq-eqb, eqb-true, eqb-false, ne_eqb, Addr, TxnId, same_addr, Version, version_at, Start, Entry, Made}
-use Rattle.farm_node.proofs.Common.{Check, Bytes, same_txn, found_of, NodeState, FitsCheck, looked_at, replay, Lawful, Given, gives, Installed, Story}
-use Rattle.farm_node.proofs.Common.{with_given, with_put, story_after, story_from, nobody, loaded_puts, untold, story_begun, story, versions_of, stamped_bytes}
-use Rattle.farm_node.proofs.Common.{value_at, number_of}
+use Rattle.farm_node.proofs.Common.{◌≡◌, ◌≢◌, ℕ, ◌<◌, ◌≤◌, ◌==◌, cond, Bool, true, false, List, [], ◌∷◌, ◌++◌, filter, Option, None, Ok, sym, refl, ap, ◌∙◌}
+use Rattle.farm_node.proofs.Common.{subst, arith, cond_both, cond-true, cond-false, eq-eqb, eqb-true, eqb-false, ne_eqb, Addr, TxnId, same_addr, Version}
+use Rattle.farm_node.proofs.Common.{version_at, Start, Entry, Made, Check, Bytes, same_txn, found_of, NodeState, FitsCheck, looked_at, replay, Lawful, Given}
+use Rattle.farm_node.proofs.Common.{gives, Installed, Story, with_given, with_put, story_after, story_from, loaded_puts, untold, story_begun, story}
+use Rattle.farm_node.proofs.Common.{versions_of, stamped_bytes, value_at, number_of}
 use Rattle.a1_base.specs.Lists.{entries_of}
 use Rattle.farm_node.specs.Puts.{PutsHold}
 use Rattle.farm_node.proofs.Sound.{txn_eq, sound}
@@ -51,21 +51,21 @@ module _ (a : Addr) (k : ℕ) where
   own_given t g all one o = record { puts = o.puts; given = λ u is. ap (λ (x : Given). cond (same_txn t u) g x) (o.given u is) }
 
   other_given : (t : TxnId) (g : Given) (all one : Story) → t.actor ≢ k → Own all one → Own (with_given t g all) one
-  other_given t g all one other o = record { puts = o.puts; given = λ u is. by u is (same_txn t u) refl } where
-    by : (u : TxnId) → u.actor ≡ k → (x : Bool) → same_txn t u ≡ x → cond x g (all.given u) ≡ one.given u
-    by u is true same = absurd (other (ap (λ (z : TxnId). z.actor) (txn_eq t u same) ∙ is))
-    by u is false same = o.given u is
+  other_given t g all one other o = record {
+    puts = o.puts;
+    given = λ u is. cond_both (same_txn t u) g (all.given u) (λ x. x ≡ one.given u) (λ same. absurd (other (ap (λ (z : TxnId). z.actor) (txn_eq t u same) ∙ is))) (λ e. o.given u is);
+  }
 
   own_put : (t : TxnId) (w : ℕ) (all one : Story) → t.actor ≡ k → Own all one → Own (with_put t w all) (with_put t w one)
   own_put t w all one is o = record {
-    puts = ap (λ (x : Bool). cond x (record { by = t; read = (all.given t).read; stamp = w; value = (all.given t).value } ∷ mine all.puts) (mine all.puts)) (eq-eqb t.actor k is)
+    puts = cond-true (t.actor == k) _ (mine all.puts) (eq-eqb t.actor k is)
         ∙ (λ i. record { by = t; read = (o.given t is i).read; stamp = w; value = (o.given t is i).value } ∷ o.puts i);
     given = o.given;
   }
 
   other_put : (t : TxnId) (w : ℕ) (all one : Story) → t.actor ≢ k → Own all one → Own (with_put t w all) one
   other_put t w all one other o = record {
-    puts = ap (λ (x : Bool). cond x (record { by = t; read = (all.given t).read; stamp = w; value = (all.given t).value } ∷ mine all.puts) (mine all.puts)) (ne_eqb t.actor k other) ∙ o.puts;
+    puts = cond-false (t.actor == k) _ (mine all.puts) (ne_eqb t.actor k other) ∙ o.puts;
     given = o.given;
   }
 
@@ -87,17 +87,13 @@ module _ (a : Addr) (k : ℕ) where
   own_all : (es : List Entry) (all one : Story) → Own all one → mine (story_from a all es).puts ≡ (story_from a one (entries_of number_of k es)).puts
   own_all [] all one o = o.puts
   own_all (e ∷ es) all one o =
-      own_all es (story_after a all e) (cond (number_of e == k) (story_after a one e) one) (own_step e all one o (number_of e == k) refl) ∙ by (number_of e == k) where
-        by : (g : Bool) → (story_from a (cond g (story_after a one e) one) (entries_of number_of k es)).puts ≡ (story_from a one (cond g (e ∷ entries_of number_of k es) (entries_of number_of k es))).puts
-        by true = refl
-        by false = refl
+      own_all es (story_after a all e) (cond (number_of e == k) (story_after a one e) one) (own_step e all one o (number_of e == k) refl)
+      ∙ elim (number_of e == k) as (λ g. (story_from a (cond g (story_after a one e) one) (entries_of number_of k es)).puts
+      ≡ (story_from a one (cond g (e ∷ entries_of number_of k es) (entries_of number_of k es))).puts) [ true ↦ refl | false ↦ refl ]
 
   none_loaded : (stamp : ℕ) (heap : List (Addr × Bytes)) → 0 < k → mine (loaded_puts a stamp heap) ≡ []
   none_loaded stamp [] low = refl
-  none_loaded stamp (x ∷ xs) low = by (same_addr x.0 a) (none_loaded stamp xs low) where
-    by : (g : Bool) → mine (loaded_puts a stamp xs) ≡ [] → mine (cond g (record { by = nobody; read = 0; stamp = stamp; value = Some x.1 } ∷ []) (loaded_puts a stamp xs)) ≡ []
-    by true more = ap (λ (b : Bool). cond b (record { by = nobody; read = 0; stamp = stamp; value = Some x.1 } ∷ []) []) (ne_eqb 0 k (λ e. absurd (omega arith)))
-    by false more = more
+  none_loaded stamp (x ∷ xs) low = cond_both (same_addr x.0 a) _ _ (λ puts. mine puts ≡ []) (λ is. cond-false (0 == k) _ [] (ne_eqb 0 k (λ e. absurd (omega arith)))) (λ e. none_loaded stamp xs low)
 
 own_puts : (log : List Entry) (a : Addr) (k : ℕ) → Lawful log → 0 < k → filter (λ i. i.by.actor == k) (story a log).puts ≡ (story_from a untold (entries_of number_of k log)).puts
 own_puts [] a k lawful low = absurd lawful
@@ -128,12 +124,12 @@ checked before rest t a r w s lawful low high =
 
 pub puts : PutsHold
 puts = record {
-  falls = λ log a lawful. (ends a log lawful).tells.falls;
+  falls = λ log a lawful. (ends a log lawful).tells.order.0;
   loaded = loaded;
   later = λ m es a i lawful there. (later_end a m es lawful).puts i there;
   decided = λ log a i s lawful there low high.
       let t : Ends a log = ends a log lawful in
-      ap (λ (v : Option Version). stamped_bytes (found_of v)) (decided_at (story a log).puts i s t.tells.falls t.tells.decided there low high);
+      ap (λ (v : Option Version). stamped_bytes (found_of v)) (decided_at (story a log).puts i s t.tells.order.0 t.tells.order.1 there low high);
   checked = checked;
   own = own_puts;
 }

@@ -1,8 +1,8 @@
 -- What every state of a lawful list keeps as a whole: the places of its objects, its pins, and the range of its stamps.
 use Rattle.farm_node.proofs.Common.{◌≡◌, ◌≢◌, ℕ, zero, suc, ◌<◌, ◌≤◌, nat_le, nat_lt, eqb, max, min, cond, Bool, true, false, ◌&&◌, List, [], ◌∷◌, Option, Some}
-use Rattle.farm_node.proofs.Common.{None, Ok, Err, sym, refl, ap, ◌∙◌, subst, inl, inr, ⊎_elim, arith, cond_both, and_parts, eq-eqb, eqb-true, Addr, TxnId}
-use Rattle.farm_node.proofs.Common.{IsAmong, IsStamp, width, add_region, Version, cut, Start, Entry, Made, Open, Shut, Read, Alloc, Lock, Check, Put, Unlock}
-use Rattle.farm_node.proofs.Common.{Collect, Bytes, Cell, same_txn, raised_to, past_raised, locked_by, installed, released, past_released, goes, collected}
+use Rattle.farm_node.proofs.Common.{None, Ok, sym, refl, ap, ◌∙◌, subst, inl, inr, ⊎_elim, arith, cond_both, and_parts, eq-eqb, eqb-true, Addr, TxnId, IsAmong}
+use Rattle.farm_node.proofs.Common.{IsStamp, width, add_region, Version, cut, Start, Entry, Made, Open, Shut, Read, Alloc, Lock, Check, Put, Unlock, Collect}
+use Rattle.farm_node.proofs.Common.{Bytes, Cell, same_txn, raised_to, past_raised, locked_by, installed, released, past_released, goes, collected}
 use Rattle.farm_node.proofs.Common.{past_collected, NodeState, set_cell, set_pin, places_in, places, lesser, least_pin, new_floor, past_over, PinnedBy, Fits}
 use Rattle.farm_node.proofs.Common.{looked_at, after, loaded_cells, loaded_regions, begun, Loads, IsStart, replay_from, LawfulFrom, replay, Lawful, StampsBelow}
 use mathlib.Core.Logic.{dite}
@@ -83,8 +83,8 @@ module _ (regions : List ℕ) (a : Addr) where
 
   collected_sits : (floor : ℕ) (c : Option Cell) → Here (Sits regions a) c → Here (Sits regions a) (collected floor c)
   collected_sits floor None h = h
-  collected_sits floor (Some c) h = elim (goes floor c) as (λ g. Here (Sits regions a) (cond g None (Some (record c { versions = cut floor c.versions }))))
-      [ true ↦ tt | false ↦ record { lies = h.lies; bound = h.bound; versions = cut_below floor c.versions h.versions } ]
+  collected_sits floor (Some c) h =
+      cond_both (goes floor c) _ _ (Here (Sits regions a)) (λ is. tt) (λ is. record { lies = h.lies; bound = h.bound; versions = cut_below floor c.versions h.versions })
 
   -- what past may come to
   raised_past_below : (s : ℕ) (c : Option Cell) (past : ℕ) → IsStamp s → IsStamp past → IsStamp (past_raised s c past)
@@ -98,7 +98,7 @@ module _ (regions : List ℕ) (a : Addr) where
 
   collected_past_below : (floor : ℕ) (c : Option Cell) (past : ℕ) → Here (Sits regions a) c → IsStamp past → IsStamp (past_collected floor c past)
   collected_past_below floor None past h t = t
-  collected_past_below floor (Some c) past h t = elim (goes floor c) as (λ g. IsStamp (cond g (max c.bound past) past)) [ true ↦ less_max c.bound past _ h.bound t | false ↦ t ]
+  collected_past_below floor (Some c) past h t = cond_both (goes floor c) _ _ IsStamp (λ is. less_max c.bound past _ h.bound t) (λ is. t)
 
 past_over_below : (regions : List ℕ) (floor : ℕ) (cells : Addr → Option Cell) (all : List Addr) (past : ℕ) → ((a : Addr) → Here (Sits regions a) (cells a)) → IsStamp past → IsStamp (past_over floor cells all past)
 past_over_below regions floor cells [] past sits t = t
@@ -179,25 +179,21 @@ pin_set actors floor k j x pins at_k at_j =
 pin_opened : (actors floor k c x : ℕ) → 0 < k → k ≤ actors → IsStamp c → IsStamp floor → x ≡ max c floor → PinOk actors floor k (Some x)
 pin_opened actors floor k c x low high stamp stamp' is = (low, high, omega arith, subst (λ (z : ℕ). IsStamp z) (sym is) (less_max c floor _ stamp stamp'))
 
+-- what is at one address changes, past, or a pin
+
+cells_changed : (p : NodeState) (b : Addr) (c : Option Cell) (past : ℕ) → Sound p → Here (Sits p.regions b) c → IsStamp past → Sound (record p { cells = set_cell b c p.cells; past = past })
+cells_changed p b c past t sits low = record { sits = λ a. here_set (Sits p.regions) b a c p.cells sits (t.sits a); pins = t.pins; past = low; floor = t.floor }
+
+pins_changed : (p : NodeState) (k : ℕ) (x : Option ℕ) → Sound p → PinOk p.actors p.floor k x → Sound (record p { pins = set_pin k x p.pins })
+pins_changed p k x t ok = record { sits = t.sits; pins = λ j. pin_set p.actors p.floor k j x p.pins ok (t.pins j); past = t.past; floor = t.floor }
+
 looked : (p : NodeState) (b : Addr) (s : ℕ) → IsStamp s → Sound p → Sound (looked_at b s p)
-looked p b s low t = record {
-  sits = λ a. here_set (Sits p.regions) b a _ p.cells (raised_sits p.regions b s (p.cells b) low (t.sits b)) (t.sits a);
-  pins = t.pins;
-  past = raised_past_below p.regions b s (p.cells b) p.past low t.past;
-  floor = t.floor;
-}
+looked p b s low t = cells_changed p b (raised_to s (p.cells b)) _ t (raised_sits p.regions b s (p.cells b) low (t.sits b)) (raised_past_below p.regions b s (p.cells b) p.past low t.past)
 
 pub sound : (p : NodeState) (e : Entry) → Fits p e → Sound p → Sound (after p e)
-sound p (Made m) fits t = t
-sound p (Open k c x) fits t = record {
-  sits = t.sits;
-  pins = λ j. pin_set p.actors p.floor k j (Some x) p.pins (pin_opened p.actors p.floor k c x fits.0 fits.1 fits.3 t.floor fits.4) (t.pins j);
-  past = t.past;
-  floor = t.floor;
-}
-sound p (Shut k) fits t = record { sits = t.sits; pins = λ j. pin_set p.actors p.floor k j None p.pins tt (t.pins j); past = t.past; floor = t.floor }
+sound p (Open k c x) fits t = pins_changed p k (Some x) t (pin_opened p.actors p.floor k c x fits.0 fits.1 fits.3 t.floor fits.4)
+sound p (Shut k) fits t = pins_changed p k None t tt
 sound p (Read k b s (Ok found)) fits t = looked p b s fits.1 t
-sound p (Read k b s (Err by)) fits t = t
 sound p (Alloc u r v placed) fits t = record {
   sits = λ a. here_set (Sits (add_region placed.at.region p.regions)) placed.at a _ p.cells
       record { lies = (in_added placed.at.region p.regions, fits.2.place.1); bound = subst (λ (z : ℕ). IsStamp z) (sym fits.3) (less_max p.past r _ t.past fits.1); versions = tt }
@@ -206,23 +202,17 @@ sound p (Alloc u r v placed) fits t = record {
   past = t.past;
   floor = t.floor;
 }
-sound p (Lock u b r new (Ok locked)) fits t = record { sits = λ a. here_set (Sits p.regions) b a _ p.cells (locked_sits p.regions b u new (p.cells b) (t.sits b)) (t.sits a); pins = t.pins; past = t.past; floor = t.floor }
-sound p (Lock u b r new (Err fault)) fits t = t
+sound p (Lock u b r new (Ok locked)) fits t = cells_changed p b (locked_by u new (p.cells b)) p.past t (locked_sits p.regions b u new (p.cells b) (t.sits b)) t.past
 sound p (Check u b r w (Ok same)) fits t = looked p b w fits.stamps.1 t
-sound p (Check u b r w (Err fault)) fits t = t
-sound p (Put u b w) fits t = record { sits = λ a. here_set (Sits p.regions) b a _ p.cells (installed_sits p.regions b w (p.cells b) fits.1 (t.sits b)) (t.sits a); pins = t.pins; past = t.past; floor = t.floor }
-sound p (Unlock u b) fits t = record {
-  sits = λ a. here_set (Sits p.regions) b a _ p.cells (released_sits p.regions b (p.cells b) (t.sits b)) (t.sits a);
-  pins = t.pins;
-  past = released_past_below p.regions b (p.cells b) p.past (t.sits b) t.past;
-  floor = t.floor;
-}
+sound p (Put u b w) fits t = cells_changed p b (installed w (p.cells b)) p.past t (installed_sits p.regions b w (p.cells b) fits.1 (t.sits b)) t.past
+sound p (Unlock u b) fits t = cells_changed p b (released (p.cells b)) _ t (released_sits p.regions b (p.cells b) (t.sits b)) (released_past_below p.regions b (p.cells b) p.past (t.sits b) t.past)
 sound p (Collect k f removed) fits t = record {
   sits = λ a. collected_sits p.regions a (new_floor p f) (p.cells a) (t.sits a);
   pins = λ j. pin_collected p.actors p.floor j (least_pin f p.pins p.actors) (p.pins j) (t.pins j) (λ low high. least_at f p.pins p.actors j low high);
   past = past_over_below p.regions (new_floor p f) p.cells (places p.regions) p.past t.sits t.past;
   floor = less_max p.floor (least_pin f p.pins p.actors) _ t.floor (less_at_most _ f _ (least_below f p.pins p.actors) fits.1);
 }
+sound p e fits t = t
 
 -- the beginning
 

@@ -1,11 +1,10 @@
 -- What an event does to one address, said once.
-use Rattle.farm_node.proofs.Common.{◌≡◌, ◌⊎◌, ℕ, ◌<◌, ◌≤◌, max, cond, Bool, true, false, List, [], ◌∷◌, Option, Some, None, Result, Ok, Err, is_some, sym, refl}
-use Rattle.farm_node.proofs.Common.{ap, ◌∙◌, subst, inl, inr, ⊎_elim, arith, cond_both, AllByRecursion, Addr, TxnId, IsAmong, same_addr, Version, newest, cut}
-use Rattle.farm_node.proofs.Common.{Hold, Found, Placed, Locked, CheckFault, Entry, Made, Open, Shut, Read, Alloc, Lock, Check, Put, Unlock, Collect, Bytes}
-use Rattle.farm_node.proofs.Common.{Cell, is_open, read_answer, raised_to, past_raised, made_by, locked_by, lock_answer, check_answer, pending_of, installed}
-use Rattle.farm_node.proofs.Common.{released, past_released, goes, collected, past_collected, NodeState, set_cell, places, new_floor, past_over, HeldBy}
-use Rattle.farm_node.proofs.Common.{HeldNew, HasValue, FitsLock, Fits, looked_at, after, replay_from, LawfulFrom, gives, Story, with_given, with_put}
-use Rattle.farm_node.proofs.Common.{story_after, story_from}
+use Rattle.farm_node.proofs.Common.{◌≡◌, ◌⊎◌, ℕ, ◌<◌, ◌≤◌, max, cond, Bool, true, false, List, [], ◌∷◌, Option, Some, None, Result, Ok, is_some, sym, refl, ap}
+use Rattle.farm_node.proofs.Common.{◌∙◌, subst, inl, inr, ⊎_elim, arith, cond_both, AllByRecursion, Addr, TxnId, IsAmong, same_addr, Version, newest, cut, Hold}
+use Rattle.farm_node.proofs.Common.{Found, Placed, Locked, CheckFault, Entry, Read, Alloc, Lock, Check, Put, Unlock, Collect, Bytes, Cell, is_open, read_answer}
+use Rattle.farm_node.proofs.Common.{raised_to, past_raised, made_by, locked_by, lock_answer, check_answer, pending_of, installed, released, past_released, goes}
+use Rattle.farm_node.proofs.Common.{collected, past_collected, NodeState, set_cell, places, new_floor, past_over, HeldBy, HeldNew, HasValue, FitsLock, Fits}
+use Rattle.farm_node.proofs.Common.{looked_at, after, replay_from, LawfulFrom, gives, Story, with_given, with_put, story_after, story_from}
 use Rattle.farm_node.proofs.Addresses.{addr_eq, set_cases}
 use Rattle.farm_node.proofs.Sound.{Here, Sits, Lies, among_all, Sound, sound, pinned}
 use Rattle.farm_node.proofs.Replies.{read_cases, lock_cases, check_cases}
@@ -186,11 +185,7 @@ module _ (a : Addr) (Q : Entry → Type 0) (P : Option Cell → ℕ → ℕ → 
       (λ is. k.went c past past' floor floor' h le more is (reach is) t) (λ e. k.cut c past past' floor floor' h le more t)
 
   pub keeps : (p : NodeState) (h : Story) (e : Entry) → Sound p → Fits p e → Q e → At p h → At (after p e) (story_after a h e)
-  keeps p h (Made m) s fits q t = t
-  keeps p h (Open j c x) s fits q t = t
-  keeps p h (Shut j) s fits q t = t
   keeps p h (Read j b x (Ok found)) s fits q t = look_step x b p h (λ c is. read_open x found c (fits.2 ∙ ap (read_answer x) is)) t
-  keeps p h (Read j b x (Err by)) s fits q t = t
   keeps p h (Alloc u r v placed) s fits q t =
       let pin = pinned p u.actor r s fits.0 in
       told placed.at (Some (made_by u v placed.bound)) p h (with_given u (gives r (Some v)) h)
@@ -203,9 +198,7 @@ module _ (a : Addr) (Q : Entry → Type 0) (P : Option Cell → ℕ → ℕ → 
       told b (locked_by u new (p.cells b)) p h (with_given u (gives r new) h)
       (λ is. subst (λ (c : Option Cell). P (locked_by u new c) p.past p.floor (with_given u (gives r new) h)) (sym ask.is)
       (k.locked u b r new given ask.cell p.past p.floor h record { fits = q; here = is; actor = pin.0; pinned = pin.1; low = was.low; free = was.free } (moved b p h (Some ask.cell) is ask.is t))) t
-  keeps p h (Lock u b r new (Err fault)) s fits q t = t
   keeps p h (Check u b r w (Ok same)) s fits q t = look_step w b p h (λ c is. inl (check_open_at r (p.cells b) fits.due c is).0) t
-  keeps p h (Check u b r w (Err fault)) s fits q t = t
   keeps p h (Put u b w) s fits q t =
       let may = fits.0 in
       told b (installed w (p.cells b)) p h (with_put u w h)
@@ -217,6 +210,7 @@ module _ (a : Addr) (Q : Entry → Type 0) (P : Option Cell → ℕ → ℕ → 
       (unlock_here u b p.past p.floor h held.0 record { fits = q; here = is; hold = held.1; lock = held.3; own = held.4 } held.0.versions refl (moved b p h (Some held.0) is held.2 t))) t
   keeps p h (Collect j f removed) s fits q t = collect_here p.floor (new_floor p f) p.past (past_over (new_floor p f) p.cells (places p.regions) p.past) h (p.cells a)
       (past_over_more (new_floor p f) p.cells (places p.regions) p.past) (omega arith) (reached_sound (new_floor p f) p a s) t
+  keeps p h e s fits q t = t
 
   pub keeps_all : (p : NodeState) (h : Story) (es : List Entry) → Sound p → LawfulFrom p es → AllByRecursion Q es → At p h → At (replay_from p es) (story_from a h es)
   keeps_all p h [] s lawful q t = t

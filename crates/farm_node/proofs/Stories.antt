@@ -34,8 +34,7 @@ pub record Tells (c : Option Cell) (past floor : ℕ) (h : Story) : Type 0 where
   pub under : Under c past h.puts
   pub top : BelowAll (max floor (newest (versions_there c))) h.puts
   pub below : Below c
-  pub falls : Falls (versions_of h.puts)
-  pub decided : Decided h.puts
+  pub order : Falls (versions_of h.puts) × Decided h.puts
 
 under_more : (c : Option Cell) (past past' : ℕ) (puts : List Installed) → past ≤ past' → Under c past puts → Under c past' puts
 under_more None past past' puts le t = below_more past past' puts le t
@@ -54,15 +53,14 @@ same_le n = omega arith
 
 tells : (a : Addr) → Keeps a (λ e. Unit {0}) Tells
 tells a = record {
-  aside = λ c past past' floor h le t. record { same = t.same; waits = t.waits; under = under_more c past past' h.puts le t.under; top = t.top; below = t.below; falls = t.falls; decided = t.decided };
+  aside = λ c past past' floor h le t. record { same = t.same; waits = t.waits; under = under_more c past past' h.puts le t.under; top = t.top; below = t.below; order = t.order };
   looked = λ c s past floor h free t. record {
     same = t.same;
     waits = t.waits;
     under = below_more c.bound (max c.bound s) h.puts (omega arith) t.under;
     top = t.top;
     below = let b : newest c.versions ≤ c.bound = t.below in omega arith;
-    falls = t.falls;
-    decided = t.decided;
+    order = t.order;
   };
   made = λ u r v placed past floor h making t. record {
     same = t.same;
@@ -70,8 +68,7 @@ tells a = record {
     under = below_more past placed.bound h.puts making.over t.under;
     top = t.top;
     below = omega arith;
-    falls = t.falls;
-    decided = t.decided;
+    order = t.order;
   };
   locked = λ u b r new given c past floor h locking t. record {
     same = t.same;
@@ -79,8 +76,7 @@ tells a = record {
     under = t.under;
     top = t.top;
     below = t.below;
-    falls = t.falls;
-    decided = t.decided;
+    order = t.order;
   };
   put = λ u b w c past floor h ending above t.
       let wait = waiting c ending.hold u h ending.lock ending.own t.waits in
@@ -91,18 +87,16 @@ tells a = record {
         under = (omega arith, below_more c.bound w h.puts (omega arith) t.under);
         top = (omega arith, below_more c.bound (max floor w) h.puts (omega arith) t.under);
         below = same_le w;
-        falls = (let n : newest (versions_of h.puts) ≤ c.bound = newest_below c.bound h.puts t.under in omega arith, t.falls);
-        decided = (wait.1, t.decided);
+        order = ((let n : newest (versions_of h.puts) ≤ c.bound = newest_below c.bound h.puts t.under in omega arith, t.order.0), (wait.1, t.order.1));
       };
-  unlocked = λ u b c past floor h ending t. record { same = t.same; waits = tt; under = t.under; top = t.top; below = t.below; falls = t.falls; decided = t.decided };
+  unlocked = λ u b c past floor h ending t. record { same = t.same; waits = tt; under = t.under; top = t.top; below = t.below; order = t.order };
   back = λ u b c past floor h ending none t. record {
     same = λ s le. ap (λ (vs : List Version). stamped_bytes (found_at s vs)) (sym none) ∙ t.same s le;
     waits = tt;
     under = below_more c.bound (max past c.bound) h.puts (omega arith) t.under;
     top = subst (λ (vs : List Version). BelowAll (max floor (newest vs)) h.puts) none t.top;
     below = tt;
-    falls = t.falls;
-    decided = t.decided;
+    order = t.order;
   };
   cut = λ c past past' floor floor' h le more t. record {
     same = λ s low. let l : floor ≤ s = omega arith in ap (λ (x : Option Version). stamped_bytes (found_of x)) (cut_at floor' s c.versions low) ∙ t.same s l;
@@ -110,8 +104,7 @@ tells a = record {
     under = t.under;
     top = subst (λ (n : ℕ). BelowAll (max floor' n) h.puts) (sym (newest_cut floor' c.versions)) (below_more (max floor (newest c.versions)) (max floor' (newest c.versions)) h.puts (omega arith) t.top);
     below = subst (λ (n : ℕ). n ≤ c.bound) (sym (newest_cut floor' c.versions)) t.below;
-    falls = t.falls;
-    decided = t.decided;
+    order = t.order;
   };
   went = λ c past past' floor floor' h le more gone high t. record {
     same = λ s low. let l : floor ≤ s = omega arith in sym (gone_at floor' s c.versions low (and_parts (is_open c.lock) (is_gone floor' c.versions) gone).1).0 ∙ t.same s l;
@@ -120,8 +113,7 @@ tells a = record {
     top = let n : newest c.versions ≤ floor' = (gone_at floor' floor' c.versions (same_le floor') (and_parts (is_open c.lock) (is_gone floor' c.versions) gone).1).1 in
         below_more (max floor (newest c.versions)) (max floor' 0) h.puts (omega arith) t.top;
     below = tt;
-    falls = t.falls;
-    decided = t.decided;
+    order = t.order;
   };
   none = λ past past' floor floor' h le more t. record {
     same = λ s low. let l : floor ≤ s = omega arith in t.same s l;
@@ -129,19 +121,18 @@ tells a = record {
     under = below_more past past' h.puts le t.under;
     top = below_more (max floor 0) (max floor' 0) h.puts (omega arith) t.top;
     below = tt;
-    falls = t.falls;
-    decided = t.decided;
+    order = t.order;
   };
 }
 
 tells_begun : (a : Addr) (stamp : ℕ) (heap : List (Addr × Bytes)) → 0 < stamp → Tells (loaded_cells stamp heap a) stamp stamp (record { puts = loaded_puts a stamp heap; given = λ t. gives 0 None })
-tells_begun a stamp [] low = record { same = λ s le. refl; waits = tt; under = tt; top = tt; below = tt; falls = tt; decided = tt }
-tells_begun a stamp (x ∷ xs) low = by (tells_begun a stamp xs low) (same_addr x.0 a) where
-  by : Tells (loaded_cells stamp xs a) stamp stamp (record { puts = loaded_puts a stamp xs; given = λ t. gives 0 None }) → (g : Bool)
-      → Tells (cond g (Some (loaded_cell stamp x.1)) (loaded_cells stamp xs a)) stamp stamp
-      (record { puts = cond g (record { by = nobody; read = 0; stamp = stamp; value = Some x.1 } ∷ []) (loaded_puts a stamp xs); given = λ t. gives 0 None })
-  by more true = record { same = λ s le. refl; waits = tt; under = (omega arith, tt); top = (omega arith, tt); below = same_le stamp; falls = (low, tt); decided = (tt, tt) }
-  by more false = more
+tells_begun a stamp [] low = record { same = λ s le. refl; waits = tt; under = tt; top = tt; below = tt; order = (tt, tt) }
+tells_begun a stamp (x ∷ xs) low =
+    elim (same_addr x.0 a) as (λ g. Tells (cond g (Some (loaded_cell stamp x.1)) (loaded_cells stamp xs a)) stamp stamp
+    (record { puts = cond g (record { by = nobody; read = 0; stamp = stamp; value = Some x.1 } ∷ []) (loaded_puts a stamp xs); given = λ t. gives 0 None })) [
+      | true ↦ record { same = λ s le. refl; waits = tt; under = (omega arith, tt); top = (omega arith, tt); below = same_le stamp; order = ((low, tt), (tt, tt)) }
+      | false ↦ tells_begun a stamp xs low
+    ]
 
 -- lists
 

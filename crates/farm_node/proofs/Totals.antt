@@ -1,14 +1,15 @@
 -- Totals over all places of a node, where one address changes.
 use Rattle.farm_node.proofs.Common.{◌≡◌, ◌⊎◌, ℕ, zero, suc, ◌+◌, ◌<◌, ◌≤◌, leb, max, cond, Bool, true, false, ◌&&◌, List, [], ◌∷◌, Option, Some, None, sym}
-use Rattle.farm_node.proofs.Common.{refl, ap, ◌∙◌, subst, inl, inr, arith, both_ways, BTreeMap, AllByRecursion, Addr, IsAmong, width, same_addr, Rises, Version}
-use Rattle.farm_node.proofs.Common.{cut, Cell, is_open, is_gone, goes, collected, past_collected, set_cell, places_in, places, total, past_over, cells_of}
+use Rattle.farm_node.proofs.Common.{refl, ap, ◌∙◌, subst, inl, inr, ⊎_elim, arith, cond_both, cond-true, cond-false, both_ways, cases_Bool, BTreeMap}
+use Rattle.farm_node.proofs.Common.{AllByRecursion, Addr, IsAmong, width, same_addr, Rises, Version, cut, Cell, is_open, is_gone, goes, collected}
+use Rattle.farm_node.proofs.Common.{past_collected, set_cell, places_in, places, total, past_over, cells_of}
 use Rattle.std.proofs.Common.{Ordering}
 use Rattle.std.specs.BTreeMap.{IsOrdered, is_at}
 use Rattle.std.specs.List.Sorted.{IsStrictlySortedBy}
 use Rattle.std.specs.Map.{lookup, keys_of}
 use Rattle.std.specs.Ordering.{is_eq}
 use Rattle.std.specs.declared.cmp.Ordering.TheVariants.{Less}
-use Rattle.std.proofs.lemmas.Bool.{false_from_ne_true, cases_Bool, cases_eq}
+use Rattle.std.proofs.lemmas.Bool.{false_from_ne_true, cases_eq}
 use Rattle.std.proofs.lemmas.Map.Keys.{sorted_head, sorted_tail}
 use Rattle.object_region.specs.Occupancy.{addr_order, IsBelow}
 use Rattle.farm_node.proofs.Addresses.{addr_eq, same_self, same_turned}
@@ -112,25 +113,17 @@ total_set count regions a c cells rises there low = total_with count a c cells (
 
 past_is_max : (floor past : ℕ) (o : Option Cell) → past_collected floor o past ≡ max (past_collected floor o 0) past
 past_is_max floor past None = omega arith
-past_is_max floor past (Some c) = at (goes floor c) where
-  at : (g : Bool) → cond g (max c.bound past) past ≡ max (cond g (max c.bound 0) 0) past
-  at true = omega arith
-  at false = omega arith
+past_is_max floor past (Some c) = elim (goes floor c) as (λ g. cond g (max c.bound past) past ≡ max (cond g (max c.bound 0) 0) past) [ true ↦ omega arith | false ↦ omega arith ]
 
 pub gone_cut : (floor : ℕ) (vs : List Version) → is_gone floor (cut floor vs) ≡ is_gone floor vs
 gone_cut floor [] = refl
-gone_cut floor (v ∷ vs) = at (leb v.0 floor) where
-  at : (g : Bool) → is_gone floor (cond g (v ∷ []) (v ∷ cut floor vs)) ≡ is_gone floor (v ∷ vs)
-  at true = refl
-  at false = refl
+gone_cut floor (v ∷ vs) = cond_both (leb v.0 floor) _ _ (λ l. is_gone floor l ≡ is_gone floor (v ∷ vs)) (λ is. refl) (λ is. refl)
 
 -- a second collection takes nothing whole
 collected_once : (floor : ℕ) (o : Option Cell) → past_collected floor (collected floor o) 0 ≡ 0
 collected_once floor None = refl
-collected_once floor (Some c) = at (goes floor c) refl where
-  at : (g : Bool) → goes floor c ≡ g → past_collected floor (cond g None (Some (record c { versions = cut floor c.versions }))) 0 ≡ 0
-  at true is = refl
-  at false is = ap (λ (g : Bool). cond g (max c.bound 0) 0) (ap (λ (g : Bool). is_open c.lock && g) (gone_cut floor c.versions) ∙ is)
+collected_once floor (Some c) = cond_both (goes floor c) _ _ (λ o. past_collected floor o 0 ≡ 0) (λ is. refl)
+    (λ is. cond-false _ _ _ (ap (λ (g : Bool). is_open c.lock && g) (gone_cut floor c.versions) ∙ is))
 
 module _ (floor : ℕ) (a : Addr) (cells : Addr → Option Cell) (past : ℕ) where
   past_moved : (all : List Addr) → past_over floor (set_cell a (collected floor (cells a)) cells) all (past_collected floor (cells a) past) ≡ max (past_collected floor (cells a) 0) (past_over floor cells all past)
@@ -200,11 +193,11 @@ module _ (count : Option Cell → ℕ) (regions : List ℕ) (none : count None �
       = total_set count regions e.0 (Some e.1) (cells_in es) rises here.0 here.1 in
       let new : count (cells_in es e.0) ≡ 0 = ap count (absent_behind e.0 es (sorted_head addr_order e.0 (keys_of es) ordered)) ∙ none in
       let others : total count (cells_in es) (places regions) ≡ sum_of (λ c. count (Some c)) es
-      = total_listed es (sorted_tail addr_order e.0 (keys_of es) ordered) (λ a c there. behind a c there (same_addr a e.0) refl) in
+      = total_listed es (sorted_tail addr_order e.0 (keys_of es) ordered) behind in
       omega arith where
-        behind : (a : Addr) (c : Cell) → cells_in es a ≡ Some c → (g : Bool) → same_addr a e.0 ≡ g → IsAmong a.region regions × (a.offset < width)
-        behind a c there true is = placed a e.1 (ap (λ (g : Bool). cond g (Some e.1) (cells_in es a)) is)
-        behind a c there false is = placed a c (ap (λ (g : Bool). cond g (Some e.1) (cells_in es a)) is ∙ there)
+        behind : (a : Addr) (c : Cell) → cells_in es a ≡ Some c → IsAmong a.region regions × (a.offset < width)
+        behind a c there = ⊎_elim (λ is. placed a e.1 (cond-true (same_addr a e.0) (Some e.1) (cells_in es a) is))
+            (λ other. placed a c (cond-false (same_addr a e.0) (Some e.1) (cells_in es a) other ∙ there)) (cases_Bool (same_addr a e.0))
 
 pub total_entries : (count : Option Cell → ℕ) (objects : BTreeMap Addr Cell) (regions : List ℕ) → count None ≡ 0 → IsOrdered addr_order objects → Rises regions
     → ((a : Addr) (c : Cell) → cells_of objects a ≡ Some c → IsAmong a.region regions × (a.offset < width))
