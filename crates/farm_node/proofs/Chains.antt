@@ -1,7 +1,7 @@
 -- Lists of versions, and of puts as versions.
-use Rattle.farm_node.proofs.Common.{◌≡◌, ℕ, ◌<◌, ◌≤◌, nat_le, cond, true, false, List, [], ◌∷◌, Option, Some, None, sym, refl, ap, ◌∙◌, subst, ⊎_elim, arith}
-use Rattle.farm_node.proofs.Common.{cond_both, cond-true, cond-false, and_parts, leb-true, IsAmong, Version, version_at, newest, cut, Falls, Bytes, found_of}
-use Rattle.farm_node.proofs.Common.{found_at, is_absent, is_gone, Installed, version_of, versions_of, stamped_bytes}
+use Rattle.farm_node.proofs.Common.{◌≡◌, ℕ, suc, ◌<◌, ◌≤◌, nat_le, cond, true, false, List, [], ◌∷◌, Option, Some, None, sym, refl, ap, ◌∙◌, subst, ⊎_elim}
+use Rattle.farm_node.proofs.Common.{arith, cond_both, cond-true, cond-false, and_parts, leb-true, IsAmong, Version, version_at, newest, cut, Falls, Bytes}
+use Rattle.farm_node.proofs.Common.{found_of, found_at, is_absent, is_gone, Installed, version_of, versions_of, stamped_bytes}
 use Rattle.std.proofs.lemmas.Bool.{le-leb, lt-leb}
 
 -- versions
@@ -65,21 +65,15 @@ falls_below : (n : ℕ) (puts : List Installed) (i : Installed) → newest (vers
 falls_below n [] i low falls there = absurd there
 falls_below n (j ∷ js) i low falls there = ⊎_elim
     (λ (is : j ≡ i). let e : j.stamp ≡ i.stamp = ap (λ (z : Installed). z.stamp) is in let l : j.stamp < n = low in omega arith)
-    (λ more. let l : j.stamp < n = low in falls_below n js i (let x : newest (versions_of js) < j.stamp = falls.0 in omega arith) falls.1 more)
-    there
+    (λ more. let l : j.stamp < n = low in falls_below n js i (let x : newest (versions_of js) < j.stamp = falls.0 in omega arith) falls.1 more) there
 
 -- from its read stamp to its own stamp a put has the value at its read stamp before it
 pub decided_at : (puts : List Installed) (i : Installed) (s : ℕ) → Falls (versions_of puts) → Decided puts → IsAmong i puts → i.read ≤ s → s < i.stamp
     → version_at s (versions_of puts) ≡ version_at i.read (versions_of puts)
 decided_at [] i s falls decided there low high = absurd there
 decided_at (j ∷ js) i s falls decided there low high =
-    let above : i.stamp ≤ j.stamp = ⊎_elim
-    (λ (is : j ≡ i). let e : j.stamp ≡ i.stamp = ap (λ (z : Installed). z.stamp) is in (let r : i.stamp ≤ j.stamp = omega arith in r))
-    (λ more. let x : i.stamp < j.stamp = falls_below j.stamp js i falls.0 falls.1 more in (let r : i.stamp ≤ j.stamp = omega arith in r))
-    there in
+    let above : i.stamp < suc j.stamp = falls_below (suc j.stamp) (j ∷ js) i (omega arith) falls there in
     passed_at s (version_of j) (versions_of js) (omega arith)
-    ∙ (⊎_elim
-    (λ (is : j ≡ i). steady i.read s js (subst (λ (z : Installed). BelowAll z.read js) is decided.0) low)
-    (λ more. decided_at js i s falls.1 decided.1 more low high)
-    there
+    ∙ (⊎_elim (λ (is : j ≡ i). steady i.read s js (subst (λ (z : Installed). BelowAll z.read js) is decided.0) low)
+    (λ more. decided_at js i s falls.1 decided.1 more low high) there
     ∙ sym (passed_at i.read (version_of j) (versions_of js) (omega arith)))

@@ -7,6 +7,7 @@ use Rattle.farm_node.specs.declared.faults.ReadFault.TheVariants.{Held as ReadHe
 use Rattle.farm_node.specs.Answers.{read_entry, ReadsCell, AddsIfMade}
 use Rattle.a1_base.specs.declared.Memory.{Memory}
 use Rattle.farm_node.proofs.CellMaps.{cells_same, unset}
+use Rattle.farm_node.proofs.Sound.{pinned}
 
 pub reads_settled : (s : ℕ) (c w : Cell) (result : Result Found ReadFault) → ReadsCell s c result w → is_settled w ≡ is_settled c
 reads_settled s c w (Ok found) reads = ap is_settled reads.1

@@ -1,6 +1,7 @@
 -- Who holds a lock, and who may ask for one.
-use Rattle.farm_node.proofs.Common.{◌≡◌, ℕ, cond, Bool, true, false, List, [], ◌∷◌, Option, Some, None, is_some, sym, refl, ap, ◌∙◌, inl, inr, ⊎_elim, Addr}
-use Rattle.farm_node.proofs.Common.{TxnId, Version, Hold, Bytes, Cell, same_txn, found_at, NodeState, HeldBy, HeldNew, HasValue, MayLock, has_lock}
+use Rattle.farm_node.proofs.Common.{◌≡◌, ℕ, Bool, true, false, List, [], ◌∷◌, Option, Some, None, is_some, sym, refl, ap, ◌∙◌, inl, inr, ⊎_elim, cond_both}
+use Rattle.farm_node.proofs.Common.{cond-true, both_ways, Addr, TxnId, Version, Hold, Bytes, Cell, same_txn, found_at, NodeState, HeldBy, HeldNew, HasValue}
+use Rattle.farm_node.proofs.Common.{MayLock, has_lock}
 use Rattle.std.proofs.Common.{◌↔◌, IsTrue}
 use Rattle.farm_node.specs.State.{holds_there, has_value, is_new, may_lock}
 use Rattle.farm_node.proofs.Sound.{txn_eq, txn_self}
@@ -34,27 +35,24 @@ new_to c new = by c.versions refl new where
 
 may_to : (p : NodeState) (t : TxnId) (a : Addr) (r : ℕ) (c : Option Cell) → p.cells a ≡ c → may_lock t r c ≡ true → MayLock p t a r
 may_to p t a r None is may = absurd (cc)
-may_to p t a r (Some c) is may = by (has_lock t c.lock) refl may where
-  by : (g : Bool) → has_lock t c.lock ≡ g → cond g (is_new (Some c)) (has_value r c) ≡ true → MayLock p t a r
-  by true has may =
-      let held : HeldBy p t a = holds_to p t a (Some c) is has in
-      let same : Some held.0 ≡ Some c = sym held.2 ∙ is in
-      let cell : held.0 ≡ c = cc in
-      inr (held.0, held.1, held.2, held.3, held.4, ap (λ (d : Cell). d.versions) cell ∙ new_to c may)
-  by false has may =
-      let v = has_value_to r c may in
-      inl ((c, v.0, is, v.1), λ held. let yes : has_lock t c.lock ≡ true = ap (holds_there t) (sym is) ∙ holds_from p t a held in absurd (cc))
+may_to p t a r (Some c) is may = cond_both (has_lock t c.lock) _ _ (λ z. z ≡ true → MayLock p t a r)
+    (λ has may.
+    let held : HeldBy p t a = holds_to p t a (Some c) is has in
+    let same : Some held.0 ≡ Some c = sym held.2 ∙ is in
+    let cell : held.0 ≡ c = cc in
+    inr (held.0, held.1, held.2, held.3, held.4, ap (λ (d : Cell). d.versions) cell ∙ new_to c may))
+    (λ free may.
+    let v = has_value_to r c may in
+    inl ((c, v.0, is, v.1), λ held. both_ways (has_lock t c.lock) free (ap (holds_there t) (sym is) ∙ holds_from p t a held))) may
 
 may_value : (p : NodeState) (t : TxnId) (a : Addr) (r : ℕ) → HasValue p a r → (HeldBy p t a → ⊥) → may_lock t r (p.cells a) ≡ true
-may_value p t a r has free = ap (may_lock t r) has.2 ∙ by (has_lock t has.0.lock) refl where
-  by : (g : Bool) → has_lock t has.0.lock ≡ g → cond g (is_new (Some has.0)) (has_value r has.0) ≡ true
-  by true lock = absurd (free (holds_to p t a (Some has.0) has.2 lock))
-  by false lock = ap (is_some {T = Bytes}) has.3
+may_value p t a r has free = ap (may_lock t r) has.2
+    ∙ cond_both (has_lock t has.0.lock) _ _ (λ z. z ≡ true) (λ lock. absurd (free (holds_to p t a (Some has.0) has.2 lock))) (λ lock. ap (is_some {T = Bytes}) has.3)
 
 may_new : (p : NodeState) (t : TxnId) (a : Addr) (r : ℕ) → HeldNew p t a → may_lock t r (p.cells a) ≡ true
 may_new p t a r held =
     let lock : has_lock t held.0.lock ≡ true = ap (has_lock t) held.3 ∙ (ap (λ (u : TxnId). same_txn u t) held.4 ∙ txn_self t) in
-    ap (may_lock t r) held.2 ∙ (ap (λ (g : Bool). cond g (is_new (Some held.0)) (has_value r held.0)) lock
+    ap (may_lock t r) held.2 ∙ (cond-true (has_lock t held.0.lock) _ _ lock
     ∙ ap (λ (vs : List Version). elim vs as (λ _. Bool) [ [] ↦ true | v ∷ more ↦ false ]) held.5)
 
 pub may_iff : (p : NodeState) (t : TxnId) (a : Addr) (r : ℕ) → IsTrue (may_lock t r (p.cells a)) ↔ MayLock p t a r

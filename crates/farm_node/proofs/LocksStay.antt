@@ -1,8 +1,7 @@
 -- What holds of locks and pins through entries of others.
-use Rattle.farm_node.proofs.Common.{◌≡◌, ℕ, ◌<◌, ◌≤◌, ◌==◌, max, true, List, [], ◌∷◌, ◌++◌, Option, Some, None, Ok, sym, refl, ap, ◌∙◌, subst, ⊎_elim, arith}
-use Rattle.farm_node.proofs.Common.{cond-false, ne_eqb, AllByRecursion, Addr, TxnId, newest, Hold, Entry, Made, Open, Shut, Read, Lock, Check, Cell, is_open}
-use Rattle.farm_node.proofs.Common.{is_gone, NodeState, after, begun, replay_from, replay, Lawful, Story, story_from, story, IsOther}
-use Rattle.farm_node.proofs.Addresses.{and_left}
+use Rattle.farm_node.proofs.Common.{◌≡◌, ℕ, ◌<◌, ◌≤◌, ◌==◌, max, List, [], ◌∷◌, ◌++◌, Option, Some, None, Ok, sym, refl, ap, ◌∙◌, subst, ⊎_elim, arith}
+use Rattle.farm_node.proofs.Common.{cond-false, and_parts, ne_eqb, both_ways, AllByRecursion, Addr, TxnId, newest, Hold, Entry, Made, Open, Shut, Read, Lock}
+use Rattle.farm_node.proofs.Common.{Check, Cell, is_open, is_gone, NodeState, after, begun, replay_from, replay, Lawful, Story, story_from, story, IsOther}
 use Rattle.farm_node.proofs.Steps.{Keeps, keeps_all}
 use Rattle.farm_node.proofs.Chains.{newest_cut}
 use Rattle.farm_node.proofs.Stories.{Below, ends, replay_append, Stands, stands_behind}
@@ -26,31 +25,20 @@ same_actor c h k t is is' own = cc
 stays_held : (a : Addr) (h : Hold) (bound top : ℕ) → top ≤ bound → Keeps a (IsOther h.by.actor) (StaysHeld h bound top)
 stays_held a h bound top le = record {
   aside = λ c past past' floor story more t. record { held = t.held };
-  looked = λ c s past floor story free t. record {
-    held = (
-      t.held.0,
-      ⊎_elim
-          (λ (none : c.lock ≡ None). let held : c.lock ≡ Some h = t.held.0 in cc)
-          (λ (low : s < newest c.versions). let b : c.bound ≡ bound = t.held.1 in let n : newest c.versions ≡ top = t.held.2 in (let r : max c.bound s ≡ bound = omega arith in r))
-          free,
-      t.held.2,
-    );
-  };
+  looked = λ c s past floor story free t. record { held = (t.held.0, ⊎_elim
+      (λ (none : c.lock ≡ None). let held : c.lock ≡ Some h = t.held.0 in cc)
+      (λ (low : s < newest c.versions). let b : c.bound ≡ bound = t.held.1 in let n : newest c.versions ≡ top = t.held.2 in (let r : max c.bound s ≡ bound = omega arith in r)) free, t.held.2) };
   made = λ u r v placed past floor story making t. absurd t.held;
   locked = λ u b r new given c past floor story locking t. absurd (⊎_elim
       (λ (free : c.lock ≡ None). let held : c.lock ≡ Some h = t.held.0 in cc)
-      (λ own. locking.fits (same_actor c h own.0 u t.held.0 own.1 own.2))
-      locking.free);
+      (λ own. locking.fits (same_actor c h own.0 u t.held.0 own.1 own.2)) locking.free);
   put = λ u b w c past floor story ending above t. absurd (ending.fits (same_actor c h ending.hold u t.held.0 ending.lock ending.own));
   unlocked = λ u b c past floor story ending t. absurd (ending.fits (same_actor c h ending.hold u t.held.0 ending.lock ending.own));
   back = λ u b c past floor story ending none t. absurd (ending.fits (same_actor c h ending.hold u t.held.0 ending.lock ending.own));
   cut = λ c past past' floor floor' story past_more more t. record { held = (t.held.0, t.held.1, newest_cut floor' c.versions ∙ t.held.2) };
-  went = λ c past past' floor floor' story past_more more gone high t. absurd (not_open c.lock h t.held.0 (and_left (is_open c.lock) (is_gone floor' c.versions) gone));
+  went = λ c past past' floor floor' story past_more more gone high t. absurd (both_ways (is_open c.lock) (ap is_open t.held.0) (and_parts (is_open c.lock) (is_gone floor' c.versions) gone).0);
   none = λ past past' floor floor' story past_more more t. absurd t.held;
-} where
-  not_open : (l : Option Hold) (k : Hold) → l ≡ Some k → is_open l ≡ true → ⊥
-  not_open None k is e = cc
-  not_open (Some x) k is e = cc
+}
 
 held_cell : (h : Hold) (bound top : ℕ) (c : Option Cell) → HeldAt h bound top c → (d : Cell) × (c ≡ Some d) × (d.lock ≡ Some h) × (d.bound ≡ bound) × (newest d.versions ≡ top)
 held_cell h bound top None t = absurd t

@@ -1,17 +1,17 @@
 -- What holds of the puts on an address.
 use Rattle.farm_node.proofs.Common.{◌≡◌, ◌≢◌, ℕ, ◌<◌, ◌≤◌, ◌==◌, cond, Bool, true, false, List, [], ◌∷◌, ◌++◌, filter, Option, None, Ok, sym, refl, ap, ◌∙◌}
-use Rattle.farm_node.proofs.Common.{subst, arith, cond_both, cond-true, cond-false, eq-eqb, eqb-true, eqb-false, ne_eqb, Addr, TxnId, same_addr, Version}
-use Rattle.farm_node.proofs.Common.{version_at, Start, Entry, Made, Check, Bytes, same_txn, found_of, NodeState, FitsCheck, looked_at, replay, Lawful, Given}
-use Rattle.farm_node.proofs.Common.{gives, Installed, Story, with_given, with_put, story_after, story_from, loaded_puts, untold, story_begun, story}
-use Rattle.farm_node.proofs.Common.{versions_of, stamped_bytes, value_at, number_of}
+use Rattle.farm_node.proofs.Common.{subst, arith, cond_both, cond-true, cond-false, eq-eqb, eqb-true, eqb-false, ne_eqb, Addr, TxnId, same_addr, Version, Start}
+use Rattle.farm_node.proofs.Common.{Entry, Made, Check, Bytes, same_txn, found_of, NodeState, FitsCheck, looked_at, replay, Lawful, Given, gives, Installed}
+use Rattle.farm_node.proofs.Common.{Story, with_given, with_put, story_after, story_from, loaded_puts, untold, story_begun, story, stamped_bytes, value_at}
+use Rattle.farm_node.proofs.Common.{number_of}
 use Rattle.a1_base.specs.Lists.{entries_of}
 use Rattle.farm_node.specs.Puts.{PutsHold}
-use Rattle.farm_node.proofs.Sound.{txn_eq, sound}
+use Rattle.farm_node.proofs.Sound.{txn_eq}
 use Rattle.farm_node.proofs.Steps.{check_open_at}
 use Rattle.farm_node.proofs.Chains.{BelowAll, steady, decided_at}
 use Rattle.farm_node.proofs.Stories.{Ends, ends, Stands, stands}
 use Rattle.farm_node.proofs.Adds.{Adding, nothing, giving, putting, adding}
-use Rattle.farm_node.proofs.ReadsStay.{Barred, fixed_all, barred_less, look_bars}
+use Rattle.farm_node.proofs.ReadsStay.{Barred, fixed_behind, barred_less, look_bars}
 use Rattle.farm_node.proofs.Decided.{low_puts, check_low}
 use Rattle.farm_node.proofs.Later.{later_end}
 
@@ -114,13 +114,9 @@ checked before rest t a r w s lawful low high =
     let fits : FitsCheck p t a r w (Ok tt) = x.lawful.0 in
     let puts : BelowAll r h.puts = low_puts a p h t.actor r x.sound x.tells fits.pinned (check_low r (p.cells a) (check_open_at r (p.cells a) fits.due)) in
     let later : Barred w ((looked_at a w p).cells a) (looked_at a w p).past = look_bars a w p in
-    let at_s : version_at s (versions_of (story_from a h rest).puts) ≡ version_at s (versions_of h.puts) =
-    fixed_all a s (looked_at a w p) h rest (sound p e fits x.sound) x.lawful.1 (barred_less s w _ _ high later) in
-    let at_r : version_at r (versions_of (story_from a h rest).puts) ≡ version_at r (versions_of h.puts) =
-    fixed_all a r (looked_at a w p) h rest (sound p e fits x.sound) x.lawful.1 (barred_less r w _ _ (omega arith) later) in
-    let same : version_at s (versions_of (story_from a h rest).puts) ≡ version_at r (versions_of (story_from a h rest).puts) = at_s ∙ (steady r s h.puts puts low ∙ sym at_r) in
-    subst (λ (z : Story). stamped_bytes (found_of (version_at s (versions_of z.puts))) ≡ stamped_bytes (found_of (version_at r (versions_of z.puts)))) (sym x.story)
-    (ap (λ (v : Option Version). stamped_bytes (found_of v)) same)
+    let at_s = fixed_behind a s before rest e x (barred_less s w _ _ high later) in
+    let at_r = fixed_behind a r before rest e x (barred_less r w _ _ (omega arith) later) in
+    ap (λ (v : Option Version). stamped_bytes (found_of v)) (at_s ∙ (steady r s h.puts puts low ∙ sym at_r))
 
 pub puts : PutsHold
 puts = record {

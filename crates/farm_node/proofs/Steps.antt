@@ -79,7 +79,7 @@ past_over_more floor cells (b ∷ bs) past =
 
 -- past reaches the bound of what goes
 
-abbrev Reaches : ℕ → Option Cell → ℕ → Type 0
+abbrev pub Reaches : ℕ → Option Cell → ℕ → Type 0
 Reaches floor None past = Unit {0}
 Reaches floor (Some c) past = goes floor c ≡ true → c.bound ≤ past
 
@@ -91,7 +91,7 @@ reaches_more : (floor : ℕ) (c : Option Cell) (m n : ℕ) → m ≤ n → Reach
 reaches_more floor None m n le t = tt
 reaches_more floor (Some c) m n le t = λ g. let x : c.bound ≤ m = t g in omega arith
 
-reached_over : (floor : ℕ) (cells : Addr → Option Cell) (all : List Addr) (past : ℕ) (a : Addr) → IsAmong a all → Reaches floor (cells a) (past_over floor cells all past)
+pub reached_over : (floor : ℕ) (cells : Addr → Option Cell) (all : List Addr) (past : ℕ) (a : Addr) → IsAmong a all → Reaches floor (cells a) (past_over floor cells all past)
 reached_over floor cells [] past a there = absurd there
 reached_over floor cells (b ∷ bs) past a there = ⊎_elim
     (λ (is : b ≡ a). subst (λ (z : Addr). Reaches floor (cells z) (past_over floor cells (b ∷ bs) past)) is (reached floor (cells b) (past_over floor cells bs past)))

@@ -13,6 +13,8 @@ use Rattle.std.proofs.lemmas.Bool.{false_from_ne_true, cases_eq}
 use Rattle.std.proofs.lemmas.Map.Keys.{sorted_head, sorted_tail}
 use Rattle.object_region.specs.Occupancy.{addr_order, IsBelow}
 use Rattle.farm_node.proofs.Addresses.{addr_eq, same_self, same_turned}
+use Rattle.farm_node.proofs.Sound.{among_all}
+use Rattle.farm_node.proofs.Steps.{Reaches, reached_over}
 
 -- how often an address stands in a list
 
@@ -136,23 +138,15 @@ module _ (floor : ℕ) (a : Addr) (cells : Addr → Option Cell) (past : ℕ) wh
         omega (arith, collected_once floor (cells a), past_is_max floor later (collected floor (cells a)), past_is_max floor (past_over floor cells bs past) (cells b))
     at false is later rest = omega (arith, past_is_max floor later (cells b), past_is_max floor (past_over floor cells bs past) (cells b))
 
-  past_reached : (all : List Addr) → occurrences a all ≡ 1 → past_collected floor (cells a) 0 ≤ past_over floor cells all past
-  past_reached [] once = absurd (omega arith)
-  past_reached (b ∷ bs) once = at (same_addr a b) refl once (λ n. past_reached bs n) where
-    at : (g : Bool) → same_addr a b ≡ g → cond g 1 0 + occurrences a bs ≡ 1 → (occurrences a bs ≡ 1 → past_collected floor (cells a) 0 ≤ past_over floor cells bs past)
-        → past_collected floor (cells a) 0 ≤ past_collected floor (cells b) (past_over floor cells bs past)
-    at true is once rest =
-        let same : past_collected floor (cells a) 0 ≡ past_collected floor (cells b) 0 = ap (λ (z : Addr). past_collected floor (cells z) 0) (addr_eq a b is) in
-        omega (arith, past_is_max floor (past_over floor cells bs past) (cells b))
-    at false is once rest =
-        let reached : past_collected floor (cells a) 0 ≤ past_over floor cells bs past = rest (omega arith) in
-        omega (arith, past_is_max floor (past_over floor cells bs past) (cells b))
+past_below : (floor : ℕ) (c : Option Cell) (n : ℕ) → Reaches floor c n → past_collected floor c 0 ≤ n
+past_below floor None n reach = omega arith
+past_below floor (Some c) n reach = cond_both (goes floor c) _ _ (λ x. x ≤ n) (λ is. let b : c.bound ≤ n = reach is in omega arith) (λ is. omega arith)
 
 -- what was collected at one address raises past no more
 pub past_over_set : (floor : ℕ) (regions : List ℕ) (a : Addr) (cells : Addr → Option Cell) (past : ℕ) → Rises regions → IsAmong a.region regions → a.offset < width
     → past_over floor (set_cell a (collected floor (cells a)) cells) (places regions) (past_collected floor (cells a) past) ≡ past_over floor cells (places regions) past
 past_over_set floor regions a cells past rises there low =
-    omega (arith, past_moved floor a cells past (places regions), past_reached floor a cells past (places regions) (occurs_once a regions rises there low))
+    omega (arith, past_moved floor a cells past (places regions), past_below floor (cells a) _ (reached_over floor cells (places regions) past a (among_all a regions (there, low))))
 
 -- the total over all places is the sum over the entries of the map
 abbrev pub sum_of : (Cell → ℕ) → List (Addr × Cell) → ℕ

@@ -10,17 +10,6 @@ loop-at-init c =
     let e = c.into_iter-at-iterator.ensures.into_iter_gives in
     record { can = subst (CanLoad (plain_of c.args.self.now)) (sym e.0) c.requires.places; state = refl; stamp = c.requires.stamp; all = sym e.0 }
 
-pub load_one-requires-clause-place : goal.load_one-requires-clause-place
-load_one-requires-clause-place c =
-    (subst (IsLoading (plain_of c.args.self.now) c.args.objects.items (plain_of c.loop-at.self) c.loop-at.yielded) c.in-Some.ensures.steps.0 c.loop-at.invariant).can.0
-
-pub load_one-requires-clause-free : goal.load_one-requires-clause-free
-load_one-requires-clause-free c =
-    (subst (IsLoading (plain_of c.args.self.now) c.args.objects.items (plain_of c.loop-at.self) c.loop-at.yielded) c.in-Some.ensures.steps.0 c.loop-at.invariant).can.1
-
-pub load_one-requires-clause-stamp : goal.load_one-requires-clause-stamp
-load_one-requires-clause-stamp c = c.loop-at.invariant.stamp
-
 pub loop-at-preserved : goal.loop-at-preserved
 loop-at-preserved c =
     loading_more (plain_of c.args.self.now) c.args.objects.items (plain_of c.loop-at.self) (plain_of c.load_one.new.self) c.loop-at.yielded (into_iter_items c.next.new.self) (c.in-Some.at, c.in-Some.bytes)
