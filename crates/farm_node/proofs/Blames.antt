@@ -1,8 +1,8 @@
 -- Who and what a conflict blames, and the ranges of stamps.
 use Rattle.farm_node.proofs.Common.{◌≡◌, ℕ, ◌<◌, ◌≤◌, List, [], ◌∷◌, ◌++◌, Option, Some, None, Ok, Err, sym, refl, ap, ◌∙◌, subst, inl, inr, ⊎_elim, arith}
-use Rattle.farm_node.proofs.Common.{cond_both, AllByRecursion, Addr, TxnId, IsAmong, same_addr, newest, Hold, Held, Changed, Entry, Made, Read, Alloc, Lock}
-use Rattle.farm_node.proofs.Common.{Check, Bytes, Cell, read_answer, lock_answer, check_answer, NodeState, PinnedBy, Fits, loaded_cells, begun, replay, Lawful}
-use Rattle.farm_node.proofs.Common.{Installed, Story, story_from, loaded_puts, untold, story, versions_there, Takes, BlamesHolder, BlamesPut}
+use Rattle.farm_node.proofs.Common.{cond_both, AllByRecursion, Addr, TxnId, IsAmong, same_addr, newest, cut, Hold, Held, Changed, Entry, Made, Read, Alloc}
+use Rattle.farm_node.proofs.Common.{Lock, Check, Bytes, Cell, read_answer, lock_answer, check_answer, NodeState, PinnedBy, Fits, loaded_cells, begun, replay}
+use Rattle.farm_node.proofs.Common.{Lawful, Installed, Story, story_from, loaded_puts, untold, story, versions_there, Takes, BlamesHolder, BlamesPut}
 use Rattle.farm_node.specs.Locks.{LocksHold, RangesHold}
 use Rattle.farm_node.proofs.Sound.{Here, Sits, PinOk, sound_begun, sound_end, pinned}
 use Rattle.farm_node.proofs.Steps.{Keeps, keeps_all}
@@ -115,10 +115,12 @@ module _ (seen now : ℕ) where
 
 -- who asked is pinned at the read stamp
 changed_by : (p : NodeState) (e : Entry) (r now : ℕ) (a : Addr) → BlamesPut r now a e → Fits p e → (k : ℕ) × PinnedBy p k r × ChangedBecause r now (p.cells a)
-changed_by p (Lock u b q new (Err (Changed s n))) r now a blames fits = (u.actor, subst (PinnedBy p u.actor) blames.1 fits.pinned, lock_changed s now u r (p.cells a)
-    (ap (λ (z : ℕ). Err (Changed s z)) (sym blames.2) ∙ (fits.due ∙ (λ i. lock_answer u (blames.1 i) (p.cells (blames.0 i))))))
-changed_by p (Check u b q w (Err (Changed s n))) r now a blames fits = (u.actor, subst (PinnedBy p u.actor) blames.1 fits.pinned, check_changed s now r (p.cells a)
-    (ap (λ (z : ℕ). Err (Changed s z)) (sym blames.2) ∙ (fits.due ∙ (λ i. check_answer (blames.1 i) (p.cells (blames.0 i))))))
+changed_by p (Lock u b q new (Err (Changed s n))) r now a blames fits =
+    let due : Err (Changed s now) ≡ lock_answer u r (p.cells a) = ap (λ (z : ℕ). Err (Changed s z)) (sym blames.2) ∙ (fits.due ∙ (λ i. lock_answer u (blames.1 i) (p.cells (blames.0 i)))) in
+    (u.actor, subst (PinnedBy p u.actor) blames.1 fits.pinned, lock_changed s now u r (p.cells a) due)
+changed_by p (Check u b q w (Err (Changed s n))) r now a blames fits =
+    let due : Err (Changed s now) ≡ check_answer r (p.cells a) = ap (λ (z : ℕ). Err (Changed s z)) (sym blames.2) ∙ (fits.due ∙ (λ i. check_answer (blames.1 i) (p.cells (blames.0 i)))) in
+    (u.actor, subst (PinnedBy p u.actor) blames.1 fits.pinned, check_changed s now r (p.cells a) due)
 changed_by p e r now a blames fits = absurd blames
 
 abbrev PutBecause : ℕ → ℕ → List Installed → Type 0
@@ -160,8 +162,6 @@ ranges = record {
       let sits : Sits (replay log).regions a c = subst (λ (z : Option Cell). Here (Sits (replay log).regions a) z) is ((sound_end log lawful).sits a) in
       (sits.bound, sits.versions);
   past = λ log lawful. ((sound_end log lawful).past, (sound_end log lawful).floor);
-  pin = λ log k x lawful is.
-      let ok : PinOk (replay log).actors (replay log).floor k (Some x) = subst (λ (z : Option ℕ). PinOk (replay log).actors (replay log).floor k z) is ((sound_end log lawful).pins k) in
-      ok.3;
+  pin = λ log k x lawful is. (subst (PinOk (replay log).actors (replay log).floor k) is ((sound_end log lawful).pins k)).3;
   answered = answered;
 }

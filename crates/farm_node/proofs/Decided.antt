@@ -1,9 +1,9 @@
 -- What a transaction decides, no other changes between its two stamps.
 use Rattle.farm_node.proofs.Common.{◌≡◌, ◌⊎◌, ℕ, ◌<◌, ◌≤◌, max, true, List, [], ◌∷◌, ◌++◌, Option, Some, None, Ok, sym, refl, ap, ◌∙◌, subst, inl, inr, ⊎_elim}
-use Rattle.farm_node.proofs.Common.{arith, cond-true, and_parts, AllByRecursion, Addr, TxnId, same_addr, version_at, newest, Hold, Entry, Made, Alloc, Lock}
-use Rattle.farm_node.proofs.Common.{Check, Put, Cell, is_open, locked_by, is_gone, NodeState, PinnedBy, FitsLock, FitsCheck, Fits, looked_at, after, LawfulFrom}
-use Rattle.farm_node.proofs.Common.{replay, Lawful, Story, with_put, story_after, story_from, story_begun, story, versions_of, versions_there, Spares, PutsAt}
-use Rattle.farm_node.proofs.Common.{KeepsLock, Decides}
+use Rattle.farm_node.proofs.Common.{arith, cond-true, and_parts, AllByRecursion, Addr, TxnId, same_addr, version_at, newest, cut, Hold, Entry, Made, Alloc}
+use Rattle.farm_node.proofs.Common.{Lock, Check, Put, Cell, is_open, locked_by, is_gone, NodeState, PinnedBy, FitsLock, FitsCheck, Fits, looked_at, after}
+use Rattle.farm_node.proofs.Common.{LawfulFrom, replay, Lawful, Story, with_put, story_after, story_from, story_begun, story, versions_of, versions_there}
+use Rattle.farm_node.proofs.Common.{Spares, PutsAt, KeepsLock, Decides}
 use Rattle.farm_node.specs.Laws.{MineDecides}
 use Rattle.farm_node.proofs.Addresses.{same_self, set_self}
 use Rattle.farm_node.proofs.Sound.{Sound, sound, pinned}
@@ -128,7 +128,7 @@ each_rest P (x ∷ xs) y ys t = each_rest P xs y ys t.1
 pub low_puts : (a : Addr) (p : NodeState) (h : Story) (k r : ℕ) → Sound p → TellsAt a p h → PinnedBy p k r → newest (versions_there (p.cells a)) ≤ r → BelowAll r h.puts
 low_puts a p h k r s t pin low =
     let f : p.floor ≤ r = (pinned p k r s pin).1 in
-    below_more (max p.floor (newest (versions_there (p.cells a)))) r h.puts (omega arith) t.top
+    below_more (max p.floor (newest (versions_there (p.cells a)))) r h.puts (omega arith) t.shows.top
 
 pub check_low : (r : ℕ) (c : Option Cell) → ((d : Cell) → c ≡ Some d → (d.lock ≡ None) × (newest d.versions ≤ r)) → newest (versions_there c) ≤ r
 check_low r None is_open = omega arith

@@ -52,12 +52,9 @@ later a start = record {
       };
   unlocked = λ u b c past floor h ending t. record { bar = t.bar; actors = tt; puts = t.puts; newest = t.newest };
   back = λ u b c past floor h ending none t. record { bar = let b : start ≤ c.bound = t.bar in omega arith; actors = tt; puts = t.puts; newest = inl (omega arith) };
-  cut = λ c past past' floor floor' h le more t. record {
-    bar = t.bar;
-    actors = t.actors;
-    puts = t.puts;
-    newest = newest_moved (newest c.versions) (newest (cut floor' c.versions)) floor floor' h.puts (newest_cut floor' c.versions) more t.newest;
-  };
+  cut = λ c past past' floor floor' h le more t.
+      let newest = newest_moved (newest c.versions) (newest (cut floor' c.versions)) floor floor' h.puts (newest_cut floor' c.versions) more t.newest in
+      record { bar = t.bar; actors = t.actors; puts = t.puts; newest = newest };
   went = λ c past past' floor floor' h le more gone high t. record { bar = let b : start ≤ c.bound = t.bar in omega arith; actors = tt; puts = t.puts; newest = inl (omega arith) };
   none = λ past past' floor floor' h le more t. record { bar = let b : start ≤ past = t.bar in omega arith; actors = tt; puts = t.puts; newest = inl (omega arith) };
 }

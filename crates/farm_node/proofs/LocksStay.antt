@@ -1,7 +1,8 @@
 -- What holds of locks and pins through entries of others.
-use Rattle.farm_node.proofs.Common.{◌≡◌, ℕ, ◌<◌, ◌≤◌, ◌==◌, max, List, [], ◌∷◌, ◌++◌, Option, Some, None, Ok, sym, refl, ap, ◌∙◌, subst, ⊎_elim, arith}
-use Rattle.farm_node.proofs.Common.{cond-false, and_parts, ne_eqb, both_ways, AllByRecursion, Addr, TxnId, newest, Hold, Entry, Made, Open, Shut, Read, Lock}
-use Rattle.farm_node.proofs.Common.{Check, Cell, is_open, is_gone, NodeState, after, begun, replay_from, replay, Lawful, Story, story_from, story, IsOther}
+use Rattle.farm_node.proofs.Common.{◌≡◌, ◌⊎◌, ℕ, ◌<◌, ◌≤◌, ◌==◌, max, List, [], ◌∷◌, ◌++◌, Option, Some, None, Ok, sym, refl, ap, ◌∙◌, subst, ⊎_elim, arith}
+use Rattle.farm_node.proofs.Common.{cond-false, and_parts, ne_eqb, both_ways, AllByRecursion, Addr, TxnId, newest, cut, Hold, Entry, Made, Open, Shut, Read}
+use Rattle.farm_node.proofs.Common.{Lock, Check, Cell, is_open, is_gone, NodeState, after, begun, replay_from, replay, Lawful, Story, story_from, story}
+use Rattle.farm_node.proofs.Common.{IsOther}
 use Rattle.farm_node.proofs.Steps.{Keeps, keeps_all}
 use Rattle.farm_node.proofs.Chains.{newest_cut}
 use Rattle.farm_node.proofs.Stories.{Below, ends, replay_append, Stands, stands_behind}
@@ -22,12 +23,14 @@ record StaysHeld (h : Hold) (bound top : ℕ) (c : Option Cell) (past floor : �
 same_actor : (c : Cell) (h k : Hold) (t : TxnId) → c.lock ≡ Some h → c.lock ≡ Some k → k.by ≡ t → t.actor ≡ h.by.actor
 same_actor c h k t is is' own = cc
 
+bound_kept : (h : Hold) (bound top s : ℕ) (c : Cell) → top ≤ bound → HeldAt h bound top (Some c) → (c.lock ≡ None) ⊎ (s < newest c.versions) → max c.bound s ≡ bound
+bound_kept h bound top s c le t free = ⊎_elim (λ (none : c.lock ≡ None). let held : c.lock ≡ Some h = t.0 in cc)
+    (λ (low : s < newest c.versions). let b : c.bound ≡ bound = t.1 in let n : newest c.versions ≡ top = t.2 in (let r : max c.bound s ≡ bound = omega arith in r)) free
+
 stays_held : (a : Addr) (h : Hold) (bound top : ℕ) → top ≤ bound → Keeps a (IsOther h.by.actor) (StaysHeld h bound top)
 stays_held a h bound top le = record {
   aside = λ c past past' floor story more t. record { held = t.held };
-  looked = λ c s past floor story free t. record { held = (t.held.0, ⊎_elim
-      (λ (none : c.lock ≡ None). let held : c.lock ≡ Some h = t.held.0 in cc)
-      (λ (low : s < newest c.versions). let b : c.bound ≡ bound = t.held.1 in let n : newest c.versions ≡ top = t.held.2 in (let r : max c.bound s ≡ bound = omega arith in r)) free, t.held.2) };
+  looked = λ c s past floor story free t. record { held = (t.held.0, bound_kept h bound top s c le t.held free, t.held.2) };
   made = λ u r v placed past floor story making t. absurd t.held;
   locked = λ u b r new given c past floor story locking t. absurd (⊎_elim
       (λ (free : c.lock ≡ None). let held : c.lock ≡ Some h = t.held.0 in cc)

@@ -51,23 +51,17 @@ module _ (a : Addr) (k : ℕ) where
   own_given t g all one o = record { puts = o.puts; given = λ u is. ap (λ (x : Given). cond (same_txn t u) g x) (o.given u is) }
 
   other_given : (t : TxnId) (g : Given) (all one : Story) → t.actor ≢ k → Own all one → Own (with_given t g all) one
-  other_given t g all one other o = record {
-    puts = o.puts;
-    given = λ u is. cond_both (same_txn t u) g (all.given u) (λ x. x ≡ one.given u) (λ same. absurd (other (ap (λ (z : TxnId). z.actor) (txn_eq t u same) ∙ is))) (λ e. o.given u is);
-  }
+  other_given t g all one other o =
+      let apart = λ (u : TxnId) (is : u.actor ≡ k) (same : same_txn t u ≡ true). other (ap (λ (z : TxnId). z.actor) (txn_eq t u same) ∙ is) in
+      record { puts = o.puts; given = λ u is. cond_both (same_txn t u) g (all.given u) (λ x. x ≡ one.given u) (λ same. absurd (apart u is same)) (λ e. o.given u is) }
 
   own_put : (t : TxnId) (w : ℕ) (all one : Story) → t.actor ≡ k → Own all one → Own (with_put t w all) (with_put t w one)
-  own_put t w all one is o = record {
-    puts = cond-true (t.actor == k) _ (mine all.puts) (eq-eqb t.actor k is)
-        ∙ (λ i. record { by = t; read = (o.given t is i).read; stamp = w; value = (o.given t is i).value } ∷ o.puts i);
-    given = o.given;
-  }
+  own_put t w all one is o =
+      let put = λ (x : Given) (puts : List Installed). record { by = t; read = x.read; stamp = w; value = x.value } ∷ puts in
+      record { puts = cond-true (t.actor == k) _ (mine all.puts) (eq-eqb t.actor k is) ∙ (λ i. put (o.given t is i) (o.puts i)); given = o.given }
 
   other_put : (t : TxnId) (w : ℕ) (all one : Story) → t.actor ≢ k → Own all one → Own (with_put t w all) one
-  other_put t w all one other o = record {
-    puts = cond-false (t.actor == k) _ (mine all.puts) (ne_eqb t.actor k other) ∙ o.puts;
-    given = o.given;
-  }
+  other_put t w all one other o = record { puts = cond-false (t.actor == k) _ (mine all.puts) (ne_eqb t.actor k other) ∙ o.puts; given = o.given }
 
   own_step : (e : Entry) (all one : Story) → Own all one → (g : Bool) → (number_of e == k) ≡ g → Own (story_after a all e) (cond g (story_after a one e) one)
   own_step e all one o true is = by (adding a e) where

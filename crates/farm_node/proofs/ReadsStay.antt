@@ -1,6 +1,6 @@
 -- What is read stays so, and pins keep what they show.
 use Rattle.farm_node.proofs.Common.{◌≡◌, ℕ, ◌≤◌, List, ◌∷◌, ◌++◌, Option, Some, None, Ok, sym, refl, ap, ◌∙◌, subst, arith, cond_both, Addr, TxnId, same_addr}
-use Rattle.farm_node.proofs.Common.{Version, version_at, Found, Placed, Entry, Read, Alloc, Bytes, Cell, found_of, found_at, read_answer, raised_to}
+use Rattle.farm_node.proofs.Common.{Version, version_at, cut, Found, Placed, Entry, Read, Alloc, Bytes, Cell, found_of, found_at, read_answer, raised_to}
 use Rattle.farm_node.proofs.Common.{past_raised, made_by, NodeState, set_cell, looked_at, after, LawfulFrom, replay, Lawful, gives, Installed, Story}
 use Rattle.farm_node.proofs.Common.{with_given, story_after, story_from, story, versions_of, stamped_bytes, value_at, versions_there}
 use Rattle.farm_node.specs.Laws.{ReadsHold, PinsHold}
@@ -10,7 +10,6 @@ use Rattle.farm_node.proofs.Chains.{passed_at}
 use Rattle.farm_node.proofs.Stories.{each_unit, Ends, ends, Stands, stands}
 use Rattle.farm_node.proofs.Addresses.{set_self}
 use Rattle.farm_node.proofs.Replies.{read_cases}
-
 pub use Rattle.farm_node.proofs.Addresses.{set_self}
 
 -- a stamp that is barred sees no later put
@@ -76,7 +75,7 @@ read_holds before rest k a s found lawful =
     let t : Stands a before (Read k a s (Ok found) ∷ rest) = stands a before (Read k a s (Ok found)) rest tt lawful in
     let p : NodeState = replay before in
     ap (λ (v : Option Version). stamped_bytes (found_of v)) (fixed_behind a s before rest (Read k a s (Ok found)) t (look_bars a s p))
-    ∙ sym (ap stamped_bytes (read_is s (p.cells a) found t.lawful.0.2) ∙ t.tells.same s (pinned p k s t.sound t.lawful.0.0).1)
+    ∙ sym (ap stamped_bytes (read_is s (p.cells a) found t.lawful.0.2) ∙ t.tells.shows.same s (pinned p k s t.sound t.lawful.0.0).1)
 
 made_holds : (before rest : List Entry) (u : TxnId) (r : ℕ) (v : Bytes) (placed : Placed)
     → Lawful (before ++ Alloc u r v placed ∷ rest) → value_at (before ++ Alloc u r v placed ∷ rest) placed.at r ≡ None
@@ -91,7 +90,7 @@ made_holds before rest u r v placed lawful =
     let low : r ≤ placed.bound = omega arith in
     let bars : Barred r (set_cell a new p.cells a) p.past = subst (λ (c : Option Cell). Barred r c p.past) (sym (set_self a new p.cells)) low in
     let told : None ≡ stamped_bytes (found_at r (versions_of h.puts)) =
-    ap (λ (c : Option Cell). stamped_bytes (found_at r (versions_there c))) (sym (no_cell (p.cells a) fits.2.free)) ∙ t.tells.same r (pinned p u.actor r t.sound fits.0).1 in
+    ap (λ (c : Option Cell). stamped_bytes (found_at r (versions_there c))) (sym (no_cell (p.cells a) fits.2.free)) ∙ t.tells.shows.same r (pinned p u.actor r t.sound fits.0).1 in
     let puts : (story_after a h e).puts ≡ h.puts = cond_both (same_addr a a) (with_given u (gives r (Some v)) h) h (λ z. z.puts ≡ h.puts) (λ is. refl) (λ is. refl) in
     ap (λ (v : Option Version). stamped_bytes (found_of v)) (fixed_behind a r before rest e t bars ∙ ap (λ (puts : List Installed). version_at r (versions_of puts)) puts) ∙ sym told
 
@@ -107,5 +106,5 @@ pins = record {
   kept = λ log k x a s lawful is le.
       let t : Ends a log = ends a log lawful in
       let low : (replay log).floor ≤ x = pin_above (replay log) k x t.sound is in
-      t.tells.same s (omega arith);
+      t.tells.shows.same s (omega arith);
 }

@@ -2,7 +2,7 @@
 use Rattle.farm_node.proofs.Common.{◌≡◌, ◌≢◌, ℕ, zero, suc, ◌<◌, ◌≤◌, nat_le, nat_lt, eqb, max, min, cond, Bool, true, false, ◌&&◌, List, [], ◌∷◌, Option, Some}
 use Rattle.farm_node.proofs.Common.{None, Ok, sym, refl, ap, ◌∙◌, subst, inl, inr, ⊎_elim, arith, cond_both, and_parts, eq-eqb, eqb-true, Addr, TxnId, IsAmong}
 use Rattle.farm_node.proofs.Common.{IsStamp, width, add_region, Version, cut, Start, Entry, Made, Open, Shut, Read, Alloc, Lock, Check, Put, Unlock, Collect}
-use Rattle.farm_node.proofs.Common.{Bytes, Cell, same_txn, raised_to, past_raised, locked_by, installed, released, past_released, goes, collected}
+use Rattle.farm_node.proofs.Common.{Bytes, Cell, same_txn, raised_to, past_raised, made_by, locked_by, installed, released, past_released, goes, collected}
 use Rattle.farm_node.proofs.Common.{past_collected, NodeState, set_cell, set_pin, places_in, places, lesser, least_pin, new_floor, past_over, PinnedBy, Fits}
 use Rattle.farm_node.proofs.Common.{looked_at, after, loaded_cells, loaded_regions, begun, Loads, IsStart, replay_from, LawfulFrom, replay, Lawful, StampsBelow}
 use mathlib.Core.Logic.{dite}
@@ -194,14 +194,12 @@ pub sound : (p : NodeState) (e : Entry) → Fits p e → Sound p → Sound (afte
 sound p (Open k c x) fits t = pins_changed p k (Some x) t (pin_opened p.actors p.floor k c x fits.0 fits.1 fits.3 t.floor fits.4)
 sound p (Shut k) fits t = pins_changed p k None t tt
 sound p (Read k b s (Ok found)) fits t = looked p b s fits.1 t
-sound p (Alloc u r v placed) fits t = record {
-  sits = λ a. here_set (Sits (add_region placed.at.region p.regions)) placed.at a _ p.cells
-      record { lies = (in_added placed.at.region p.regions, fits.2.place.1); bound = subst (λ (z : ℕ). IsStamp z) (sym fits.3) (less_max p.past r _ t.past fits.1); versions = tt }
-      (here_more (Sits p.regions a) (Sits (add_region placed.at.region p.regions) a) (p.cells a) (sits_still p.regions placed.at.region a) (t.sits a));
-  pins = t.pins;
-  past = t.past;
-  floor = t.floor;
-}
+sound p (Alloc u r v placed) fits t =
+    let regions : List ℕ = add_region placed.at.region p.regions in
+    let bound : IsStamp placed.bound = subst IsStamp (sym fits.3) (less_max p.past r _ t.past fits.1) in
+    let sits = λ (a : Addr). here_set (Sits regions) placed.at a (Some (made_by u v placed.bound)) p.cells record { lies = (in_added placed.at.region p.regions, fits.2.place.1); bound = bound; versions = tt }
+    (here_more (Sits p.regions a) (Sits regions a) (p.cells a) (sits_still p.regions placed.at.region a) (t.sits a)) in
+    record { sits = sits; pins = t.pins; past = t.past; floor = t.floor }
 sound p (Lock u b r new (Ok locked)) fits t = cells_changed p b (locked_by u new (p.cells b)) p.past t (locked_sits p.regions b u new (p.cells b) (t.sits b)) t.past
 sound p (Check u b r w (Ok same)) fits t = looked p b w fits.stamps.1 t
 sound p (Put u b w) fits t = cells_changed p b (installed w (p.cells b)) p.past t (installed_sits p.regions b w (p.cells b) fits.1 (t.sits b)) t.past
@@ -237,7 +235,7 @@ sound_end (e ∷ es) lawful = absurd lawful
 -- who is pinned is an actor, and reads from the floor on
 pub pinned : (p : NodeState) (k s : ℕ) → Sound p → PinnedBy p k s → (0 < k) × (p.floor ≤ s)
 pinned p k s sound pin =
-    let ok : PinOk p.actors p.floor k (Some pin.0) = subst (λ (z : Option ℕ). PinOk p.actors p.floor k z) pin.1 (sound.pins k) in
+    let ok : PinOk p.actors p.floor k (Some pin.0) = subst (PinOk p.actors p.floor k) pin.1 (sound.pins k) in
     let le : p.floor ≤ pin.0 = ok.2 in
     let above : pin.0 ≤ s = pin.2 in
     (ok.0, omega arith)
