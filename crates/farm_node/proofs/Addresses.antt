@@ -1,7 +1,6 @@
 -- When two addresses are one.
 use Rattle.farm_node.proofs.Common.{◌≡◌, eqb, Bool, true, false, ◌&&◌, Option, sym, refl, ap, ◌∙◌, subst, cond_both, cond-true, and_parts, eq-eqb, eqb-true}
-use Rattle.farm_node.proofs.Common.{Addr, same_addr, Cell, set_cell}
-use Rattle.std.specs.Ordering.{nat_cmp, is_eq}
+use Rattle.farm_node.proofs.Common.{nat_cmp, is_eq, Addr, same_addr, Cell, set_cell}
 use Rattle.std.specs.Cmp.{tied_then, unsigned_tied}
 
 pub and_left : (x y : Bool) → (x && y) ≡ true → x ≡ true

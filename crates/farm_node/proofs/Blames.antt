@@ -2,7 +2,7 @@
 use Rattle.farm_node.proofs.Common.{◌≡◌, ℕ, ◌<◌, ◌≤◌, List, [], ◌∷◌, ◌++◌, Option, Some, None, Ok, Err, sym, refl, ap, ◌∙◌, subst, inl, inr, ⊎_elim, arith}
 use Rattle.farm_node.proofs.Common.{cond_both, AllByRecursion, Addr, TxnId, IsAmong, same_addr, newest, cut, Hold, Held, Changed, Entry, Made, Read, Alloc}
 use Rattle.farm_node.proofs.Common.{Lock, Check, Bytes, Cell, read_answer, lock_answer, check_answer, NodeState, PinnedBy, Fits, loaded_cells, begun, replay}
-use Rattle.farm_node.proofs.Common.{Lawful, Installed, Story, story_from, loaded_puts, untold, story, versions_there, Takes, BlamesHolder, BlamesPut}
+use Rattle.farm_node.proofs.Common.{Lawful, Installed, Story, story_from, untold, story, versions_there, Takes, BlamesHolder, BlamesPut}
 use Rattle.farm_node.specs.Locks.{LocksHold, RangesHold}
 use Rattle.farm_node.proofs.Sound.{Here, Sits, PinOk, sound_begun, sound_end, pinned}
 use Rattle.farm_node.proofs.Steps.{Keeps, keeps_all}
@@ -135,14 +135,12 @@ newest_put : (a : Addr) (k r now : ℕ) (log : List Entry) → Lawful log → Pi
 newest_put a k r now [] lawful pin why = absurd lawful
 newest_put a k r now (Made m ∷ es) lawful pin why =
     let l = later_end a m es lawful in
-    let low : (replay (Made m ∷ es)).floor ≤ r = (pinned (replay (Made m ∷ es)) k r (sound_end (Made m ∷ es) lawful) pin).1 in
+    let p : NodeState = replay (Made m ∷ es) in
+    let low : p.floor ≤ r = (pinned p k r (sound_end (Made m ∷ es) lawful) pin).1 in
     let above : r < now = why.2 in
-    let top : newest (versions_there ((replay (Made m ∷ es)).cells a)) ≡ now = ap (λ (c : Option Cell). newest (versions_there c)) why.1 ∙ why.3 in
-    ⊎_elim
-    (λ (old : newest (versions_there ((replay (Made m ∷ es)).cells a)) ≤ (replay (Made m ∷ es)).floor). absurd (omega arith))
-    (λ (put : PutAt (newest (versions_there ((replay (Made m ∷ es)).cells a))) (story_from a untold es).puts).
-    (put.0, subst (λ (puts : List Installed). IsAmong put.0 puts) (sym (loaded m es a lawful)) (among_first put.0 (story_from a untold es).puts (loaded_puts a m.stamp m.heap) put.1), put.2 ∙ top, above, (l.puts put.0 put.1).0))
-    l.newest
+    let top : newest (versions_there (p.cells a)) ≡ now = ap (λ (c : Option Cell). newest (versions_there c)) why.1 ∙ why.3 in
+    ⊎_elim (λ (old : newest (versions_there (p.cells a)) ≤ p.floor). absurd (omega arith))
+    (λ (put : PutAt (newest (versions_there (p.cells a))) (story_from a untold es).puts). (put.0, subst (IsAmong put.0) (sym (loaded m es a lawful)) (among_first put.0 _ _ put.1), put.2 ∙ top, above, (l.puts put.0 put.1).0)) l.newest
 newest_put a k r now (e ∷ es) lawful pin why = absurd lawful
 
 change : (before rest : List Entry) (e : Entry) (r now : ℕ) (a : Addr) → Lawful (before ++ e ∷ rest) → BlamesPut r now a e

@@ -1,13 +1,9 @@
 -- The objects of a node as a function of addresses, and what changes of it keep.
 use Rattle.farm_node.proofs.Common.{◌≡◌, ℕ, max, cond, Bool, true, false, not, ◌&&◌, ◌||◌, List, [], Option, Some, None, Result, Ok, Err, is_some, OnOk, OnErr}
-use Rattle.farm_node.proofs.Common.{sym, refl, ap, ◌∙◌, subst, cond-false, or_right, BTreeMap, list_any, Addr, same_addr, Occupancy, Hold, Cell, is_open}
-use Rattle.farm_node.proofs.Common.{is_single, is_settled, NodeState, set_cell, places, cells_of, plain_from, AgreesWith, IsTracked, settled_there, with_cell}
+use Rattle.farm_node.proofs.Common.{sym, refl, ap, ◌∙◌, subst, cond-false, or_right, BTreeMap, WritesThrough, is_at, list_any, lookup, Memory, Addr, same_addr}
+use Rattle.farm_node.proofs.Common.{Occupancy, without_place, addr_order, vacant, with_place, Hold, Cell, is_open, is_single, is_settled, NodeState, set_cell}
+use Rattle.farm_node.proofs.Common.{places, cells_of, plain_from, AgreesWith, IsTracked, settled_there, with_cell, given_back}
 use Rattle.std.specs.Option.{IsSome}
-use Rattle.std.specs.Map.{lookup}
-use Rattle.std.specs.BTreeMap.{WritesThrough, is_at}
-use Rattle.a1_base.specs.declared.Memory.{Memory}
-use Rattle.object_region.specs.Occupancy.{addr_order, vacant, with_place, without_place}
-use Rattle.farm_node.specs.State.{given_back}
 use Rattle.farm_node.proofs.Addresses.{set_cases}
 
 pub cells_written : (objects later : BTreeMap Addr Cell) (a : Addr) (c w : Cell) → Some c ≡ cells_of objects a

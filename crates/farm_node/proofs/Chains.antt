@@ -1,8 +1,7 @@
 -- Lists of versions, and of puts as versions.
 use Rattle.farm_node.proofs.Common.{◌≡◌, ℕ, suc, ◌<◌, ◌≤◌, nat_le, cond, true, false, List, [], ◌∷◌, Option, Some, None, sym, refl, ap, ◌∙◌, subst, ⊎_elim}
-use Rattle.farm_node.proofs.Common.{arith, cond_both, cond-true, cond-false, and_parts, leb-true, IsAmong, Version, version_at, newest, cut, Falls, Bytes}
-use Rattle.farm_node.proofs.Common.{found_of, found_at, is_absent, is_gone, Installed, version_of, versions_of, stamped_bytes}
-use Rattle.std.proofs.lemmas.Bool.{le-leb, lt-leb}
+use Rattle.farm_node.proofs.Common.{arith, cond_both, cond-true, cond-false, and_parts, leb-true, le-leb, lt-leb, IsAmong, Version, version_at, newest, cut}
+use Rattle.farm_node.proofs.Common.{Falls, Bytes, found_of, found_at, is_absent, is_gone, Installed, version_of, versions_of, stamped_bytes}
 
 -- versions
 

@@ -1,9 +1,7 @@
 -- How many objects and versions a map has.
-use Rattle.farm_node.proofs.Common.{◌≡◌, ℕ, ◌+◌, ◌-◌, ◌^◌, ◌<◌, min, List, [], ◌∷◌, length, Option, Some, refl, ap, ◌∙◌, arith, BTreeMap, Addr, Rises, Cell}
-use Rattle.farm_node.proofs.Common.{objects_in, versions_in, NodeState, places, total, object_count, version_count, counted, cells_of}
-use Rattle.std.specs.Map.{values_of}
-use Rattle.std.specs.BTreeMap.{IsOrdered, btree_map_len, values}
-use Rattle.object_region.specs.Occupancy.{addr_order}
+use Rattle.farm_node.proofs.Common.{◌≡◌, ℕ, ◌+◌, ◌-◌, ◌^◌, ◌<◌, min, List, [], ◌∷◌, length, Option, Some, refl, ap, ◌∙◌, arith, BTreeMap, IsOrdered}
+use Rattle.farm_node.proofs.Common.{btree_map_len, values, values_of, Addr, Rises, addr_order, Cell, objects_in, versions_in, NodeState, places, total}
+use Rattle.farm_node.proofs.Common.{object_count, version_count, counted, cells_of}
 use Rattle.farm_node.proofs.Totals.{sum_of, total_entries}
 use Rattle.farm_node.proofs.Sweeping.{IsPlaced}
 

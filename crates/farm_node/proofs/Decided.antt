@@ -3,8 +3,7 @@ use Rattle.farm_node.proofs.Common.{◌≡◌, ◌⊎◌, ℕ, ◌<◌, ◌≤�
 use Rattle.farm_node.proofs.Common.{arith, cond-true, and_parts, AllByRecursion, Addr, TxnId, same_addr, version_at, newest, cut, Hold, Entry, Made, Alloc}
 use Rattle.farm_node.proofs.Common.{Lock, Check, Put, Cell, is_open, locked_by, is_gone, NodeState, PinnedBy, FitsLock, FitsCheck, Fits, looked_at, after}
 use Rattle.farm_node.proofs.Common.{LawfulFrom, replay, Lawful, Story, with_put, story_after, story_from, story_begun, story, versions_of, versions_there}
-use Rattle.farm_node.proofs.Common.{Spares, PutsAt, KeepsLock, Decides}
-use Rattle.farm_node.specs.Laws.{MineDecides}
+use Rattle.farm_node.proofs.Common.{Spares, PutsAt, KeepsLock, Decides, MineDecides}
 use Rattle.farm_node.proofs.Addresses.{same_self, set_self}
 use Rattle.farm_node.proofs.Sound.{Sound, sound, pinned}
 use Rattle.farm_node.proofs.Steps.{Keeps, no_cell, check_open_at, Askable, askable, lock_low, keeps_each}

@@ -1,11 +1,10 @@
 -- Events on one cell, as entries of the node.
-use Rattle.farm_node.proofs.Common.{◌≡◌, ℕ, max, Option, Some, None, Result, Ok, Err, OnOk, OnErr, sym, ap, ◌∙◌, Addr, TxnId, IsStamp, Found, CheckFault, Check}
-use Rattle.farm_node.proofs.Common.{Cell, read_answer, raised_to, past_raised, check_answer, is_settled, NodeState, set_cell, PinnedBy, HeldBy, looked_at}
-use Rattle.farm_node.proofs.Common.{after, Adds}
+use Rattle.farm_node.proofs.Common.{◌≡◌, ℕ, max, Option, Some, None, Result, Ok, Err, OnOk, OnErr, sym, ap, ◌∙◌, Memory, Addr, TxnId, IsStamp, Found}
+use Rattle.farm_node.proofs.Common.{CheckFault, Check, Cell, read_answer, raised_to, past_raised, check_answer, is_settled, NodeState, set_cell, PinnedBy}
+use Rattle.farm_node.proofs.Common.{HeldBy, looked_at, after, Adds}
 use Rattle.farm_node.specs.declared.faults.ReadFault.{ReadFault}
 use Rattle.farm_node.specs.declared.faults.ReadFault.TheVariants.{Held as ReadHeld, Memory as NoReadMemory}
 use Rattle.farm_node.specs.Answers.{read_entry, ReadsCell, AddsIfMade}
-use Rattle.a1_base.specs.declared.Memory.{Memory}
 use Rattle.farm_node.proofs.CellMaps.{cells_same, unset}
 use Rattle.farm_node.proofs.Sound.{pinned}
 

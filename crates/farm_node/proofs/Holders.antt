@@ -1,9 +1,7 @@
 -- Who holds a lock, and who may ask for one.
-use Rattle.farm_node.proofs.Common.{◌≡◌, ℕ, Bool, true, false, List, [], ◌∷◌, Option, Some, None, is_some, sym, refl, ap, ◌∙◌, inl, inr, ⊎_elim, cond_both}
-use Rattle.farm_node.proofs.Common.{cond-true, both_ways, Addr, TxnId, Version, Hold, Bytes, Cell, same_txn, found_at, NodeState, HeldBy, HeldNew, HasValue}
-use Rattle.farm_node.proofs.Common.{MayLock, has_lock}
-use Rattle.std.proofs.Common.{◌↔◌, IsTrue}
-use Rattle.farm_node.specs.State.{holds_there, has_value, is_new, may_lock}
+use Rattle.farm_node.proofs.Common.{◌≡◌, ℕ, Bool, true, false, List, [], ◌∷◌, Option, Some, None, is_some, sym, refl, ap, ◌∙◌, inl, inr, ⊎_elim, ◌↔◌, IsTrue}
+use Rattle.farm_node.proofs.Common.{cond_both, cond-true, both_ways, Addr, TxnId, Version, Hold, Bytes, Cell, same_txn, found_at, NodeState, HeldBy, HeldNew}
+use Rattle.farm_node.proofs.Common.{HasValue, MayLock, has_lock, holds_there, has_value, is_new, may_lock}
 use Rattle.farm_node.proofs.Sound.{txn_eq, txn_self}
 
 pub has_lock_to : (l : Option Hold) (t : TxnId) → has_lock t l ≡ true → (h : Hold) × (l ≡ Some h) × (h.by ≡ t)

@@ -1,9 +1,6 @@
 -- Loading one object after another.
-use Rattle.farm_node.proofs.Common.{◌≡◌, ℕ, ◌<◌, List, [], ◌∷◌, ◌++◌, length, take, Result, Ok, Err, OnErr, sym, refl, ap, ◌∙◌, subst, arith, Addr, Bytes}
-use Rattle.farm_node.proofs.Common.{loaded_cell, NodeState, with_cell, with_objects, CanLoad}
-use Rattle.std.proofs.Common.{append_assoc}
-use Rattle.std.proofs.lemmas.List.{append-nil, take-append-le}
-use Rattle.std.proofs.Math.Seq.{take-length}
+use Rattle.farm_node.proofs.Common.{◌≡◌, ℕ, ◌<◌, List, [], ◌∷◌, ◌++◌, length, take, Result, Ok, Err, OnErr, sym, refl, ap, ◌∙◌, subst, arith, append_assoc}
+use Rattle.farm_node.proofs.Common.{take-append-le, append-nil, take-length, Addr, Bytes, loaded_cell, NodeState, with_cell, with_objects, CanLoad}
 
 -- what has been loaded of `objects`, and that the rest can be
 pub record IsLoading (p : NodeState) (objects : List (Addr × Bytes)) (now : NodeState) (yielded rest : List (Addr × Bytes)) : Type 0 where

@@ -122,8 +122,7 @@ sits_still regions n a c t = record { lies = (in_still a.region n regions t.lies
 among_places : (a : Addr) (n : ℕ) (more : List Addr) → a.offset < n → IsAmong a (places_in a.region n more)
 among_places a zero more low = absurd (omega arith)
 among_places a (suc n) more low = dite (ℕ_discrete n a.offset)
-    (λ (e : n ≡ a.offset). inl (λ i. record { region = a.region; offset = e i }))
-    (λ (ne : n ≢ a.offset). inr (among_places a n more (omega arith)))
+    (λ (e : n ≡ a.offset). inl (λ i. record { region = a.region; offset = e i })) (λ (ne : n ≢ a.offset). inr (among_places a n more (omega arith)))
 
 among_behind : (a : Addr) (r n : ℕ) (more : List Addr) → IsAmong a more → IsAmong a (places_in r n more)
 among_behind a r zero more t = t
@@ -134,8 +133,7 @@ pub among_all : (a : Addr) (regions : List ℕ) → Lies regions a → IsAmong a
 among_all a [] lies = absurd lies.0
 among_all a (r ∷ rs) lies = ⊎_elim
     (λ (e : r ≡ a.region). subst (λ (z : ℕ). IsAmong a (places_in z width (places rs))) (sym e) (among_places a width (places rs) lies.1))
-    (λ more. among_behind a r width (places rs) (among_all a rs (more, lies.1)))
-    lies.0
+    (λ more. among_behind a r width (places rs) (among_all a rs (more, lies.1))) lies.0
 
 -- pins
 
@@ -157,8 +155,7 @@ least_at : (f : ℕ) (pins : ℕ → Option ℕ) (n k : ℕ) → 0 < k → k ≤
 least_at f pins zero k low high = absurd (omega arith)
 least_at f pins (suc n) k low high = dite (ℕ_discrete (suc n) k)
     (λ (is : suc n ≡ k). subst (λ (z : ℕ). PinAbove (least_pin f pins (suc n)) (pins z)) is
-    (elim (pins (suc n)) as (λ c. PinAbove (lesser c (least_pin f pins n)) c)
-    [ None ↦ tt | Some x ↦ omega arith ]))
+    (elim (pins (suc n)) as (λ c. PinAbove (lesser c (least_pin f pins n)) c) [ None ↦ tt | Some x ↦ omega arith ]))
     (λ (ne : suc n ≢ k).
     let below : k ≤ n = omega arith in
     let r : PinAbove (least_pin f pins n) (pins k) = least_at f pins n k low below in
@@ -167,10 +164,7 @@ least_at f pins (suc n) k low high = dite (ℕ_discrete (suc n) k)
 
 pin_collected : (actors floor k f : ℕ) (x : Option ℕ) → PinOk actors floor k x → (0 < k → k ≤ actors → PinAbove f x) → PinOk actors (max floor f) k x
 pin_collected actors floor k f None ok le = tt
-pin_collected actors floor k f (Some x) ok le =
-    let a : floor ≤ x = ok.2 in
-    let b : f ≤ x = le ok.0 ok.1 in
-    (ok.0, ok.1, omega arith, ok.3)
+pin_collected actors floor k f (Some x) ok le = let a : floor ≤ x = ok.2 in let b : f ≤ x = le ok.0 ok.1 in (ok.0, ok.1, omega arith, ok.3)
 
 pin_set : (actors floor k j : ℕ) (x : Option ℕ) (pins : ℕ → Option ℕ) → PinOk actors floor k x → PinOk actors floor j (pins j) → PinOk actors floor j (set_pin k x pins j)
 pin_set actors floor k j x pins at_k at_j =

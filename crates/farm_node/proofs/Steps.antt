@@ -96,8 +96,7 @@ reached_over floor cells [] past a there = absurd there
 reached_over floor cells (b ∷ bs) past a there = ⊎_elim
     (λ (is : b ≡ a). subst (λ (z : Addr). Reaches floor (cells z) (past_over floor cells (b ∷ bs) past)) is (reached floor (cells b) (past_over floor cells bs past)))
     (λ more. reaches_more floor (cells a) (past_over floor cells bs past) (past_over floor cells (b ∷ bs) past) (past_collected_more floor (cells b) (past_over floor cells bs past))
-    (reached_over floor cells bs past a more))
-    there
+    (reached_over floor cells bs past a more)) there
 
 -- what an answer says of the object
 

@@ -1,16 +1,11 @@
 -- A collection address by address is the collection of the whole node.
 use Rattle.farm_node.proofs.Common.{◌≡◌, ◌⊎◌, ℕ, suc, ◌+◌, ◌-◌, ◌^◌, ◌<◌, ◌≤◌, nat_le, leb, max, min, cond, Bool, true, false, ◌&&◌, ◌||◌, List, [], ◌∷◌, ◌++◌}
-use Rattle.farm_node.proofs.Common.{length, take, Option, Some, None, is_some, sym, refl, ap, ◌∙◌, subst, inl, inr, ⊎_elim, arith, cond_both, cond-true}
-use Rattle.farm_node.proofs.Common.{cond-false, and_parts, or_cases, both_ways, list_any, Addr, IsAmong, width, same_addr, Occupancy, Rises, Version, cut, Cell}
-use Rattle.farm_node.proofs.Common.{is_open, is_absent, is_gone, goes, is_single, collected, past_collected, objects_in, versions_in, NodeState, set_cell}
-use Rattle.farm_node.proofs.Common.{places, total, object_count, version_count, past_over, after_collect, counted, settled_there, goes_there, SweepsNext}
-use Rattle.farm_node.proofs.Common.{collected_at}
-use Rattle.std.proofs.Common.{length-append}
+use Rattle.farm_node.proofs.Common.{length, take, Option, Some, None, is_some, sym, refl, ap, ◌∙◌, subst, inl, inr, ⊎_elim, arith, length-append, cond_both}
+use Rattle.farm_node.proofs.Common.{cond-true, cond-false, and_parts, or_cases, both_ways, and_right, not-true, list_any, take-append-le, take-length, Addr}
+use Rattle.farm_node.proofs.Common.{IsAmong, width, same_addr, Occupancy, Rises, IsOccupancy, Version, cut, Cell, is_open, is_absent, is_gone, goes, is_single}
+use Rattle.farm_node.proofs.Common.{collected, past_collected, objects_in, versions_in, NodeState, set_cell, places, total, object_count, version_count}
+use Rattle.farm_node.proofs.Common.{past_over, after_collect, counted, settled_there, goes_there, SweepsNext, collected_at}
 use mir.Val.{bool_byte}
-use Rattle.std.proofs.lemmas.List.{take-append-le}
-use Rattle.object_region.specs.Occupancy.{IsOccupancy}
-use Rattle.std.proofs.Math.Seq.{take-length}
-use Rattle.std.proofs.lemmas.Bool.{and_right, not-true}
 use Rattle.farm_node.proofs.CellMaps.{unset}
 use Rattle.farm_node.proofs.Totals.{gone_cut, total_set, past_over_set}
 use Rattle.farm_node.proofs.Addresses.{same_turned, set_cases, set_self}
@@ -138,24 +133,22 @@ sweeping_more floor begin now later [] touched' left next versions objects resul
 sweeping_more floor begin now later (x ∷ rest) touched' left next versions objects result versions' objects' s step swept more counts =
     let le : next ≤ length rest = (let l : left ≤ length (x ∷ rest) = s.long in omega arith) in
     let kept = take_more next rest touched' x le swept.3 in
-    let here : later.cells x ≡ collected floor (now.cells x) =
-    ap (λ (p : NodeState). p.cells x) swept.0 ∙ set_self x (collected floor (now.cells x)) now.cells in
-    let fewer_versions : version_count (collected_at floor x now) + versions_in (now.cells x) ≡ version_count now + versions_in (collected floor (now.cells x)) = total_before floor now x s.rises s.placed versions_in in
-    let fewer_objects : object_count (collected_at floor x now) + objects_in (now.cells x) ≡ object_count now + objects_in (collected floor (now.cells x)) = total_before floor now x s.rises s.placed objects_in in
-    let later_versions : version_count later ≡ version_count (collected_at floor x now) = ap version_count swept.0 in
-    let later_objects : object_count later ≡ object_count (collected_at floor x now) = ap object_count swept.0 in
-    let removed : result.0 + versions_in (collected floor (now.cells x)) ≡ versions_in (now.cells x) = ap (λ (o : Option Cell). result.0 + versions_in o) (sym here) ∙ swept.1 in
+    let q : NodeState = collected_at floor x now in
+    let here : q.cells x ≡ collected floor (now.cells x) = set_self x (collected floor (now.cells x)) now.cells in
+    let fewer_versions : version_count q + versions_in (now.cells x) ≡ version_count now + versions_in (collected floor (now.cells x)) = total_before floor now x s.rises s.placed versions_in in
+    let fewer_objects : object_count q + objects_in (now.cells x) ≡ object_count now + objects_in (collected floor (now.cells x)) = total_before floor now x s.rises s.placed objects_in in
+    let removed : result.0 + versions_in (collected floor (now.cells x)) ≡ versions_in (now.cells x) =
+    ap (λ (o : Option Cell). result.0 + versions_in o) (sym here) ∙ (ap (λ (p : NodeState). result.0 + versions_in (p.cells x)) (sym swept.0) ∙ swept.1) in
     let gone : objects_in (collected floor (now.cells x)) + bool_byte result.1 ≡ objects_in (now.cells x) =
     ap (λ (g : Bool). objects_in (collected floor (now.cells x)) + bool_byte g) swept.2 ∙ objects_gone floor (now.cells x) in
     let was_versions : versions ≡ counted (version_count begin - version_count now) = s.removed in
     let was_fewer : version_count now ≤ version_count begin = s.fewer in
     let was_objects : objects + object_count now ≡ object_count begin = s.gone in
-    record {
-      same = ap (after_collect floor) swept.0 ∙ (after_before floor now x s.rises s.placed ∙ s.same);
-      rises = subst (λ (p : NodeState). Rises p.regions) (sym swept.0) s.rises;
-      placed = subst IsPlaced (sym swept.0) (placed_before floor now x s.rises s.placed);
-      waits = λ b. subst (λ (l : List Addr). (list_any (same_addr b) l ≡ true) ⊎ (collected floor (later.cells b) ≡ later.cells b)) (sym kept.0)
-          (subst (λ (p : NodeState). (list_any (same_addr b) (take next rest) ≡ true) ⊎ (collected floor (p.cells b) ≡ p.cells b)) (sym swept.0) (waits b (s.waits b)));
+    subst (λ (z : NodeState). IsSweeping floor begin z touched' next versions' objects') (sym swept.0) record {
+      same = after_before floor now x s.rises s.placed ∙ s.same;
+      rises = s.rises;
+      placed = placed_before floor now x s.rises s.placed;
+      waits = λ b. subst (λ (l : List Addr). (list_any (same_addr b) l ≡ true) ⊎ (collected floor (q.cells b) ≡ q.cells b)) (sym kept.0) (waits b (s.waits b));
       long = kept.1;
       removed = omega arith;
       fewer = omega arith;

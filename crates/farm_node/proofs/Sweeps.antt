@@ -1,11 +1,9 @@
 -- Collecting at one address after another.
 use Rattle.farm_node.proofs.Common.{◌≡◌, ◌⊎◌, ℕ, ◌+◌, max, cond, Bool, true, false, not, ◌||◌, List, [], ◌∷◌, ◌++◌, Option, Some, None, is_some, sym, refl, ap}
-use Rattle.farm_node.proofs.Common.{◌∙◌, subst, inl, inr, ⊎_elim, cond_both, or_left, or_right, or_cases, both_ways, list_any, Addr, same_addr, Occupancy, cut}
-use Rattle.farm_node.proofs.Common.{Cell, goes, collected, past_collected, versions_in, set_cell, places, plain_from, AgreesWith, IsTracked, settled_there}
-use Rattle.farm_node.proofs.Common.{goes_there, bound_there, SweepsCell, SweepsNext}
-use Rattle.object_region.specs.Occupancy.{without_place}
+use Rattle.farm_node.proofs.Common.{◌∙◌, subst, inl, inr, ⊎_elim, cond_both, or_left, or_right, or_cases, both_ways, list_any, Addr, same_addr, Occupancy}
+use Rattle.farm_node.proofs.Common.{without_place, cut, Cell, goes, collected, past_collected, versions_in, set_cell, places, plain_from, AgreesWith, IsTracked}
+use Rattle.farm_node.proofs.Common.{settled_there, goes_there, bound_there, SweepsCell, SweepsNext, past_with}
 use Rattle.farm_node.specs.declared.swept.Swept.{Swept}
-use Rattle.farm_node.specs.State.{past_with}
 use Rattle.std.proofs.lemmas.List.Folds.{list_any-append}
 use Rattle.farm_node.proofs.Addresses.{same_self, same_turned, set_cases, set_self}
 use Rattle.farm_node.proofs.CellMaps.{agrees_set, agrees_without}

@@ -1,17 +1,12 @@
 -- Totals over all places of a node, where one address changes.
 use Rattle.farm_node.proofs.Common.{◌≡◌, ◌⊎◌, ℕ, zero, suc, ◌+◌, ◌<◌, ◌≤◌, leb, max, cond, Bool, true, false, ◌&&◌, List, [], ◌∷◌, Option, Some, None, sym}
-use Rattle.farm_node.proofs.Common.{refl, ap, ◌∙◌, subst, inl, inr, ⊎_elim, arith, cond_both, cond-true, cond-false, both_ways, cases_Bool, BTreeMap}
-use Rattle.farm_node.proofs.Common.{AllByRecursion, Addr, IsAmong, width, same_addr, Rises, Version, cut, Cell, is_open, is_gone, goes, collected}
-use Rattle.farm_node.proofs.Common.{past_collected, set_cell, places_in, places, total, past_over, cells_of}
-use Rattle.std.proofs.Common.{Ordering}
-use Rattle.std.specs.BTreeMap.{IsOrdered, is_at}
+use Rattle.farm_node.proofs.Common.{refl, ap, ◌∙◌, subst, inl, inr, ⊎_elim, arith, Ordering, cond_both, cond-true, cond-false, both_ways, cases_Bool}
+use Rattle.farm_node.proofs.Common.{false_from_ne_true, cases_eq, BTreeMap, is_at, IsOrdered, AllByRecursion, is_eq, lookup, keys_of, Addr, IsAmong, width}
+use Rattle.farm_node.proofs.Common.{same_addr, Rises, addr_order, IsBelow, Version, cut, Cell, is_open, is_gone, goes, collected, past_collected, set_cell}
+use Rattle.farm_node.proofs.Common.{places_in, places, total, past_over, cells_of}
 use Rattle.std.specs.List.Sorted.{IsStrictlySortedBy}
-use Rattle.std.specs.Map.{lookup, keys_of}
-use Rattle.std.specs.Ordering.{is_eq}
 use Rattle.std.specs.declared.cmp.Ordering.TheVariants.{Less}
-use Rattle.std.proofs.lemmas.Bool.{false_from_ne_true, cases_eq}
 use Rattle.std.proofs.lemmas.Map.Keys.{sorted_head, sorted_tail}
-use Rattle.object_region.specs.Occupancy.{addr_order, IsBelow}
 use Rattle.farm_node.proofs.Addresses.{addr_eq, same_self, same_turned}
 use Rattle.farm_node.proofs.Sound.{among_all}
 use Rattle.farm_node.proofs.Steps.{Reaches, reached_over}

@@ -1,5 +1,4 @@
-use Rattle.farm_node.proofs.Common.{◌≡◌, None, least_pin}
-use Rattle.std.proofs.Common.{slice_index_or}
+use Rattle.farm_node.proofs.Common.{◌≡◌, None, slice_index_or, least_pin}
 use Rattle.farm_node.proofs.node.least_pin.Given as goal
 
 abbrev pub invariant-loop-k : goal.invariant-loop-k

@@ -1,5 +1,4 @@
-use Rattle.farm_node.proofs.Common.{sym, refl, ap, ◌∙◌, arith, occupancy_of, counted, plain_of}
-use Rattle.std.specs.BTreeMap.{values}
+use Rattle.farm_node.proofs.Common.{sym, refl, ap, ◌∙◌, arith, values, occupancy_of, counted, plain_of}
 use Rattle.farm_node.proofs.Counts.{lengths, versions_are, objects_are, count_begins, count_more, count_ends}
 use Rattle.farm_node.proofs.Sweeping.{placed_by}
 use Rattle.farm_node.proofs.node.Node.counts.Goals as goal

@@ -1,5 +1,4 @@
-use Rattle.farm_node.proofs.Common.{◌≡◌, ◌+◌, ◌^◌, ◌<◌, counted}
-use Rattle.std.specs.BTreeMap.{values}
+use Rattle.farm_node.proofs.Common.{◌≡◌, ◌+◌, ◌^◌, ◌<◌, values, counted}
 use Rattle.farm_node.proofs.Counts.{lengths}
 use Rattle.farm_node.proofs.node.Node.counts.Given as goal
 

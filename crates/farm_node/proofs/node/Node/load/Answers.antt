@@ -1,6 +1,4 @@
-use Rattle.farm_node.proofs.Common.{◌≡◌, ℕ, take, sym, refl, ◌∙◌, subst, with_objects, CanLoad, plain_of}
-use Rattle.std.specs.Vec.Iter.{into_iter_items}
-use Rattle.std.proofs.lemmas.List.{nil_from_length}
+use Rattle.farm_node.proofs.Common.{◌≡◌, ℕ, take, sym, refl, ◌∙◌, subst, nil_from_length, into_iter_items, with_objects, CanLoad, plain_of}
 use Rattle.farm_node.proofs.Loads.{IsLoading, loading_more, loading_front, loading_done, on_err}
 use Rattle.farm_node.proofs.Standing.{loads}
 use Rattle.farm_node.proofs.node.Node.load.Goals as goal
