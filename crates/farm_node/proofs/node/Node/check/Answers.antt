@@ -13,16 +13,16 @@ pub invariant_of-self-clause-tracked : goal.invariant_of-self-clause-tracked
 invariant_of-self-clause-tracked c =
     tracked_kept (cells_of c.args.self.now.objects) (cells_of (c.get_mut.follows.lender c.check.new.self)) c.args.self.now.touched.items c.args.at c.in-Some.object.now c.check.new.self c.args.self.now.tracked c.in-Some.ensures.value
     (cells_written c.args.self.now.objects (c.get_mut.follows.lender c.check.new.self) c.args.at c.in-Some.object.now c.check.new.self c.in-Some.ensures.value (c.get_mut.follows.holds c.check.new.self))
-    (check_settled c.args.w c.in-Some.object.now c.check.new.self c.check.result c.check.ensures.ok c.check.ensures.err)
+    (check_settled c.args.write_stamp c.in-Some.object.now c.check.new.self c.check.result c.check.ensures.ok c.check.ensures.err)
 
 pub returns-in-Some : goal.returns-in-Some
 returns-in-Some c =
     check_there (plain_of c.args.self.now) (cells_of (c.get_mut.follows.lender c.check.new.self)) c.args.at
-    c.args.t c.args.r c.args.w c.in-Some.object.now c.check.new.self c.check.result c.in-Some.ensures.value
+    c.args.transaction c.args.read_stamp c.args.write_stamp c.in-Some.object.now c.check.new.self c.check.result c.in-Some.ensures.value
     (cells_written c.args.self.now.objects (c.get_mut.follows.lender c.check.new.self) c.args.at c.in-Some.object.now c.check.new.self c.in-Some.ensures.value (c.get_mut.follows.holds c.check.new.self))
     c.check.ensures.answer c.check.ensures.ok c.check.ensures.err c.requires.pinned c.requires.stamps c.requires.not_own
 
 pub returns-in-None : goal.returns-in-None
 returns-in-None c =
-    check_nowhere (plain_of c.args.self.now) (cells_of c.get_mut.follows.lender-at-none) c.max-self.result c.args.at c.args.t c.args.r c.args.w c.in-None.ensures.value
+    check_nowhere (plain_of c.args.self.now) (cells_of c.get_mut.follows.lender-at-none) c.max-self.result c.args.at c.args.transaction c.args.read_stamp c.args.write_stamp c.in-None.ensures.value
     (ap cells_of c.get_mut.follows.holds-at-none) c.max-self.ensures c.requires.pinned c.requires.stamps c.requires.not_own

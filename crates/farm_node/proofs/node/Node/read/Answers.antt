@@ -13,11 +13,11 @@ pub invariant_of-self-clause-tracked : goal.invariant_of-self-clause-tracked
 invariant_of-self-clause-tracked c =
     tracked_kept (cells_of c.args.self.now.objects) (cells_of (c.get_mut.follows.lender c.read.new.self)) c.args.self.now.touched.items c.args.at c.in-Some.object.now c.read.new.self c.args.self.now.tracked c.in-Some.ensures.value
     (cells_written c.args.self.now.objects (c.get_mut.follows.lender c.read.new.self) c.args.at c.in-Some.object.now c.read.new.self c.in-Some.ensures.value (c.get_mut.follows.holds c.read.new.self))
-    (reads_settled c.args.s c.in-Some.object.now c.read.new.self c.read.result c.read.ensures)
+    (reads_settled c.args.stamp c.in-Some.object.now c.read.new.self c.read.result c.read.ensures)
 
 pub returns-in-Some : goal.returns-in-Some
 returns-in-Some c =
     read_there (plain_of c.args.self.now) (cells_of (c.get_mut.follows.lender c.read.new.self)) c.args.at
-    c.args.actor c.args.s c.in-Some.object.now c.read.new.self c.read.result c.in-Some.ensures.value
+    c.args.actor c.args.stamp c.in-Some.object.now c.read.new.self c.read.result c.in-Some.ensures.value
     (cells_written c.args.self.now.objects (c.get_mut.follows.lender c.read.new.self) c.args.at c.in-Some.object.now c.read.new.self c.in-Some.ensures.value (c.get_mut.follows.holds c.read.new.self))
     c.read.ensures c.requires.pinned c.requires.stamp
