@@ -75,7 +75,8 @@ locked_by t new (Some c) = Some (record c { lock = Some (record { by = t; pendin
 
 -- Changed where the newest version is above r, else what the lock or the check gives
 abbrev pub unless_changed : {X : Type 0} → ℕ → Cell → X → Result X CheckFault
-unless_changed r c x = cond (nat_lt r (newest c.versions)) (Err (Changed (found_at r c.versions).stamp (newest c.versions))) (Ok x)
+unless_changed r c x =
+    cond (nat_lt r (newest c.versions)) (Err (Changed (found_at r c.versions).stamp (newest c.versions))) (Ok x)
 
 abbrev pub lock_given : ℕ → ℕ → Locked
 lock_given seen bound = record { seen = seen; bound = bound }
@@ -92,7 +93,10 @@ lock_answer t r (Some c) = elim c.lock as (λ _. Result Locked CheckFault) [
 -- a check of what the transaction does not hold: Held where another does, else Changed as above, else the same
 abbrev pub check_answer : ℕ → Option Cell → Result (Unit {0}) CheckFault
 check_answer r None = Ok tt
-check_answer r (Some c) = elim c.lock as (λ _. Result (Unit {0}) CheckFault) [ None ↦ unless_changed r c tt | Some h ↦ Err (Held h.by) ]
+check_answer r (Some c) = elim c.lock as (λ _. Result (Unit {0}) CheckFault) [
+  | None ↦ unless_changed r c tt
+  | Some h ↦ Err (Held h.by)
+]
 
 abbrev pub pending_of : Option Hold → Option Bytes
 pending_of None = None

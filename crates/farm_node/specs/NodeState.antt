@@ -81,7 +81,11 @@ past_over floor cells [] past = past
 past_over floor cells (a ∷ rest) past = past_collected floor (cells a) (past_over floor cells rest past)
 
 abbrev pub after_collect : ℕ → NodeState → NodeState
-after_collect floor p = record p { cells = cells_collected floor p.cells; past = past_over floor p.cells (places p.regions) p.past; floor = floor }
+after_collect floor p = record p {
+  cells = cells_collected floor p.cells;
+  past = past_over floor p.cells (places p.regions) p.past;
+  floor = floor;
+}
 
 -- a count of versions stands still at the end of its type
 abbrev pub counted : ℕ → ℕ
@@ -92,7 +96,11 @@ abbrev pub collect_answer : NodeState → ℕ → Collected
 collect_answer p f =
     let floor = new_floor p f in
     let later = after_collect floor p in
-    record { floor = floor; versions = counted (version_count p - version_count later); objects = object_count p - object_count later }
+    record {
+      floor = floor;
+      versions = counted (version_count p - version_count later);
+      objects = object_count p - object_count later;
+    }
 
 -- conditions
 
@@ -127,7 +135,8 @@ pub record FitsLock (p : NodeState) (t : TxnId) (a : Addr) (r : ℕ) (answer : R
   pub may : MayLock p t a r
   pub due : answer ≡ lock_answer t r (p.cells a)
 
-pub record FitsCheck (p : NodeState) (t : TxnId) (a : Addr) (r w : ℕ) (answer : Result (Unit {0}) CheckFault) : Type 0 where
+pub record FitsCheck (p : NodeState) (t : TxnId) (a : Addr) (r w : ℕ) (answer : Result (Unit {0}) CheckFault)
+    : Type 0 where
   pub pinned : PinnedBy p t.actor r
   pub stamps : IsStamp r × IsStamp w
   pub not_own : HeldBy p t a → ⊥
@@ -139,7 +148,8 @@ Fits p (Made start) = ⊥
 Fits p (Open k c x) = (0 < k) × (k ≤ p.actors) × (p.pins k ≡ None) × IsStamp c × (x ≡ max c p.floor)
 Fits p (Shut k) = (x : ℕ) × (p.pins k ≡ Some x)
 Fits p (Read k a s answer) = PinnedBy p k s × IsStamp s × (answer ≡ read_answer s (p.cells a))
-Fits p (Alloc t r v placed) = PinnedBy p t.actor r × IsStamp r × LeastFree (occupancy p) placed.at × (placed.bound ≡ max p.past r)
+Fits p (Alloc t r v placed) =
+    PinnedBy p t.actor r × IsStamp r × LeastFree (occupancy p) placed.at × (placed.bound ≡ max p.past r)
 Fits p (Lock t a r new answer) = FitsLock p t a r answer
 Fits p (Check t a r w answer) = FitsCheck p t a r w answer
 Fits p (Put t a w) = MayPut p t a w × IsStamp w
@@ -148,7 +158,8 @@ Fits p (Collect k f removed) = (0 < k) × IsStamp f × (removed ≡ collect_answ
 
 -- an address was read, or checked and found the same, at s
 abbrev pub looked_at : Addr → ℕ → NodeState → NodeState
-looked_at a s p = record p { cells = set_cell a (raised_to s (p.cells a)) p.cells; past = past_raised s (p.cells a) p.past }
+looked_at a s p =
+    record p { cells = set_cell a (raised_to s (p.cells a)) p.cells; past = past_raised s (p.cells a) p.past }
 
 -- the state that an entry leaves
 abbrev pub after : NodeState → Entry → NodeState
@@ -157,13 +168,17 @@ after p (Open k c x) = record p { pins = set_pin k (Some x) p.pins }
 after p (Shut k) = record p { pins = set_pin k None p.pins }
 after p (Read k a s (Ok found)) = looked_at a s p
 after p (Read k a s (Err by)) = p
-after p (Alloc t r v placed) = record p { cells = set_cell placed.at (Some (made_by t v placed.bound)) p.cells; regions = add_region placed.at.region p.regions }
+after p (Alloc t r v placed) = record p {
+  cells = set_cell placed.at (Some (made_by t v placed.bound)) p.cells;
+  regions = add_region placed.at.region p.regions;
+}
 after p (Lock t a r new (Ok locked)) = record p { cells = set_cell a (locked_by t new (p.cells a)) p.cells }
 after p (Lock t a r new (Err fault)) = p
 after p (Check t a r w (Ok same)) = looked_at a w p
 after p (Check t a r w (Err fault)) = p
 after p (Put t a w) = record p { cells = set_cell a (installed w (p.cells a)) p.cells }
-after p (Unlock t a) = record p { cells = set_cell a (released (p.cells a)) p.cells; past = past_released (p.cells a) p.past }
+after p (Unlock t a) =
+    record p { cells = set_cell a (released (p.cells a)) p.cells; past = past_released (p.cells a) p.past }
 after p (Collect k f removed) = after_collect (new_floor p f) p
 
 -- the beginning
@@ -208,7 +223,8 @@ LawfulFrom p (e ∷ es) = Fits p e × LawfulFrom (after p e) es
 
 -- the state of a list that is none of a node
 abbrev pub nowhere : NodeState
-nowhere = record { cells = λ a. None; regions = []; pins = λ k. None; past = 0; floor = 0; node = 0; nodes = 1; actors = 0 }
+nowhere =
+    record { cells = λ a. None; regions = []; pins = λ k. None; past = 0; floor = 0; node = 0; nodes = 1; actors = 0 }
 
 abbrev pub replay : List Entry → NodeState
 replay [] = nowhere

@@ -60,7 +60,8 @@ with_objects p (x ∷ xs) = with_objects (with_cell x.0 (loaded_cell p.floor x.1
 -- each object has a place of the node that is free when its turn comes, so no place stands twice
 abbrev pub CanLoad : NodeState → List (Addr × Bytes) → Type 0
 CanLoad p [] = Unit {0}
-CanLoad p (x ∷ xs) = IsPlace (occupancy p) x.0 × (p.cells x.0 ≡ None) × CanLoad (with_cell x.0 (loaded_cell p.floor x.1) p) xs
+CanLoad p (x ∷ xs) =
+    IsPlace (occupancy p) x.0 × (p.cells x.0 ≡ None) × CanLoad (with_cell x.0 (loaded_cell p.floor x.1) p) xs
 
 -- an object without a version
 abbrev pub is_new : Option Cell → Bool
@@ -87,7 +88,10 @@ may_lock t r (Some c) = cond (has_lock t c.lock) (is_new (Some c)) (has_value r 
 
 -- without the object there; past rises to its bound
 abbrev pub given_back : Addr → NodeState → NodeState
-given_back a p = elim (p.cells a) as (λ _. NodeState) [ None ↦ p | Some c ↦ record p { cells = set_cell a None p.cells; past = max p.past c.bound } ]
+given_back a p = elim (p.cells a) as (λ _. NodeState) [
+  | None ↦ p
+  | Some c ↦ record p { cells = set_cell a None p.cells; past = max p.past c.bound }
+]
 
 -- collecting at one address
 
@@ -112,10 +116,14 @@ pub record SweepsCell (floor : ℕ) (c : Option Cell) (swept : Swept) : Type 0 w
 
 -- a state in which one address was collected
 abbrev pub collected_at : ℕ → Addr → NodeState → NodeState
-collected_at floor a p = record p { cells = set_cell a (collected floor (p.cells a)) p.cells; past = past_collected floor (p.cells a) p.past }
+collected_at floor a p = record p {
+  cells = set_cell a (collected floor (p.cells a)) p.cells;
+  past = past_collected floor (p.cells a) p.past;
+}
 
 -- the next touched address was collected, and stands last where something is left
 abbrev pub SweepsNext : ℕ → List Addr → NodeState → ℕ × Bool → List Addr → NodeState → Type 0
 SweepsNext floor [] p result touched q = (q ≡ p) × (touched ≡ []) × (result ≡ (0, false))
 SweepsNext floor (a ∷ rest) p result touched q =
-    (q ≡ collected_at floor a p) × (result.0 + versions_in (q.cells a) ≡ versions_in (p.cells a)) × (result.1 ≡ goes_there floor (p.cells a)) × ((touched ≡ rest) ⊎ (touched ≡ rest ++ a ∷ []))
+    (q ≡ collected_at floor a p) × (result.0 + versions_in (q.cells a) ≡ versions_in (p.cells a))
+    × (result.1 ≡ goes_there floor (p.cells a)) × ((touched ≡ rest) ⊎ (touched ≡ rest ++ a ∷ []))

@@ -35,7 +35,8 @@ with_given t g h = record h { given = λ u. cond (same_txn t u) g (h.given u) }
 
 -- the value of a put is what its transaction last gave
 abbrev pub with_put : TxnId → ℕ → Story → Story
-with_put t w h = record h { puts = record { by = t; read = (h.given t).read; stamp = w; value = (h.given t).value } ∷ h.puts }
+with_put t w h =
+    record h { puts = record { by = t; read = (h.given t).read; stamp = w; value = (h.given t).value } ∷ h.puts }
 
 abbrev pub story_after : Addr → Story → Entry → Story
 story_after a h (Made m) = h
@@ -61,7 +62,8 @@ nobody = record { actor = 0; number = 0 }
 -- loaded contents count as a put at the stamp of the start
 abbrev pub loaded_puts : Addr → ℕ → List (Addr × Bytes) → List Installed
 loaded_puts a stamp [] = []
-loaded_puts a stamp (x ∷ xs) = cond (same_addr x.0 a) (record { by = nobody; read = 0; stamp = stamp; value = Some x.1 } ∷ []) (loaded_puts a stamp xs)
+loaded_puts a stamp (x ∷ xs) = cond (same_addr x.0 a)
+    (record { by = nobody; read = 0; stamp = stamp; value = Some x.1 } ∷ []) (loaded_puts a stamp xs)
 
 abbrev pub untold : Story
 untold = record { puts = []; given = λ t. gives 0 None }

@@ -24,8 +24,8 @@ pub fn mine_decides()
     ensures { MineDecides }
 {}
 
-/// The puts on an address: their stamps rise, the loaded one comes first, each is decided from its read stamp to its own,
-/// and an actor's are those of its own entries.
+/// The puts on an address: their stamps rise, the loaded one comes first, each is decided from its read stamp to its
+/// own, and an actor's are those of its own entries.
 #[tactic(auto, using(crate::proofs::PutsStay::puts))]
 pub fn puts_hold()
     ensures { PutsHold }

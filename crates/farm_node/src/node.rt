@@ -100,8 +100,8 @@ impl Node {
     }
 
     /// Reads an address at `stamp`: the newest version at most `stamp`, absent with the stamp 0 where there is none. It
-    /// bars later puts up to `stamp`. `Held` comes exactly where a transaction holds the address and no version is above
-    /// `stamp`, `Memory` for want of memory alone; after either the node is as before.
+    /// bars later puts up to `stamp`. `Held` comes exactly where a transaction holds the address and no version is
+    /// above `stamp`, `Memory` for want of memory alone; after either the node is as before.
     pub fn read(
         &mut self,
         alloc: Global,
@@ -125,11 +125,11 @@ impl Node {
         }
     }
 
-    /// Makes an object for a transaction, which then holds its lock, at the least free place of the lowest made region that
-    /// has one, else at the first place of the lowest region not made. The answer tells the place and the bound: the
-    /// greater of `read_stamp` and the stamp up to which puts at addresses without an object are barred.
-    /// `Spent` comes exactly where all places of the node are taken, `Memory` for want of memory alone; after either the
-    /// node is as before.
+    /// Makes an object for a transaction, which then holds its lock, at the least free place of the lowest made region
+    /// that has one, else at the first place of the lowest region not made. The answer tells the place and the bound:
+    /// the greater of `read_stamp` and the stamp up to which puts at addresses without an object are barred. `Spent`
+    /// comes exactly where all places of the node are taken, `Memory` for want of memory alone; after either the node
+    /// is as before.
     pub fn alloc(
         &mut self,
         alloc: Global,
@@ -139,7 +139,8 @@ impl Node {
     ) -> Result<Placed, PlaceFault>
         requires pinned { PinnedBy (plain_of self.old) transaction.actor read_stamp }
         requires stamp { IsStamp read_stamp }
-        ensures made { AddsIfMade (plain_of self.old) (alloc_entry transaction read_stamp bytes result) (plain_of self.new) }
+        ensures made { AddsIfMade (plain_of self.old) (alloc_entry transaction read_stamp bytes result)
+            (plain_of self.new) }
         ensures spent { (result ≡ Err PlaceFault.Spent) ↔ IsSpent (occupancy (plain_of self.old)) }
     {
         let Some(at) = self.places.least_free() else {
@@ -163,7 +164,8 @@ impl Node {
     ) -> Result<(), Memory>
         requires place { IsPlace (occupancy (plain_of self.old)) at }
         requires free { (plain_of self.old).cells at ≡ None }
-        ensures ok { OnOk result (plain_of self.new ≡ with_cell at (made_by transaction bytes bound) (plain_of self.old)) }
+        ensures ok { OnOk result
+            (plain_of self.new ≡ with_cell at (made_by transaction bytes bound) (plain_of self.old)) }
         ensures err { OnErr result (plain_of self.new ≡ plain_of self.old) }
     {
         let object = Object::made(alloc, transaction, bytes, bound)?;
@@ -182,13 +184,14 @@ impl Node {
         insert_at(&mut self.objects, &mut self.places, at, object)
     }
 
-    /// Loads objects before any event, each with one version at the stamp of the start. `Memory` comes for want of memory
-    /// alone; then a front of them is loaded.
+    /// Loads objects before any event, each with one version at the stamp of the start. `Memory` comes for want of
+    /// memory alone; then a front of them is loaded.
     pub fn load(&mut self, alloc: Global, objects: Vec<(Addr, Bin)>) -> Result<(), Memory>
         requires places { CanLoad (plain_of self.old) objects.items }
         requires stamp { 0 < (plain_of self.old).floor }
         ensures ok { OnOk result (plain_of self.new ≡ with_objects (plain_of self.old) objects.items) }
-        ensures err { OnErr result ((k : ℕ) × (plain_of self.new ≡ with_objects (plain_of self.old) (take k objects.items))) }
+        ensures err { OnErr result
+            ((k : ℕ) × (plain_of self.new ≡ with_objects (plain_of self.old) (take k objects.items))) }
         ensures begins { (m : Start) → StandsFor self.old (Made m ∷ [])
             → OnOk result (StandsFor self.new (Made (with_heap m objects.items) ∷ [])) }
     {
@@ -204,7 +207,8 @@ impl Node {
         requires place { IsPlace (occupancy (plain_of self.old)) at }
         requires free { (plain_of self.old).cells at ≡ None }
         requires stamp { 0 < (plain_of self.old).floor }
-        ensures ok { OnOk result (plain_of self.new ≡ with_cell at (loaded_cell (plain_of self.old).floor bytes) (plain_of self.old)) }
+        ensures ok { OnOk result
+            (plain_of self.new ≡ with_cell at (loaded_cell (plain_of self.old).floor bytes) (plain_of self.old)) }
         ensures err { OnErr result (plain_of self.new ≡ plain_of self.old) }
     {
         let object = Object::loaded(alloc, self.floor, bytes)?;
@@ -228,8 +232,8 @@ impl Node {
         }
     }
 
-    /// Whether the transaction may ask for the lock of an address: there is a value at `read_stamp` and it does not hold
-    /// the address, or it holds it from its own `alloc`.
+    /// Whether the transaction may ask for the lock of an address: there is a value at `read_stamp` and it does not
+    /// hold the address, or it holds it from its own `alloc`.
     pub fn may_lock(&self, transaction: TxnId, at: Addr, read_stamp: u64) -> bool
         ensures { result ≡ may_lock transaction read_stamp ((plain_of self.now).cells at) }
     {
@@ -241,8 +245,8 @@ impl Node {
 
     /// Asks for the lock of an address, to install `new` under it, none for an object that goes. A transaction may lock
     /// again what it holds from its own `alloc`. `Held` comes exactly where another transaction holds the address,
-    /// `Changed` exactly where no other does and its newest stamp is above `read_stamp`, `Memory` behind both and for want of
-    /// memory alone; after each the node is as before.
+    /// `Changed` exactly where no other does and its newest stamp is above `read_stamp`, `Memory` behind both and for
+    /// want of memory alone; after each the node is as before.
     pub fn lock(
         &mut self,
         transaction: TxnId,
@@ -307,9 +311,9 @@ impl Node {
         }
     }
 
-    /// Whether what the transaction read at `read_stamp` still stands, on its way to commit at `write_stamp`: then puts up
-    /// to `write_stamp` are barred. `Held` comes exactly where another holds the address, `Changed` exactly where no other
-    /// does and its newest stamp is above `read_stamp`; after either the node is as before.
+    /// Whether what the transaction read at `read_stamp` still stands, on its way to commit at `write_stamp`: then puts
+    /// up to `write_stamp` are barred. `Held` comes exactly where another holds the address, `Changed` exactly where no
+    /// other does and its newest stamp is above `read_stamp`; after either the node is as before.
     pub fn check(
         &mut self,
         transaction: TxnId,
@@ -379,8 +383,8 @@ impl Node {
 
     /// Collects: the floor rises to the least of `proposal` and the pins, and never falls. The versions older than the
     /// newest one at most the floor go, and so do the objects without a lock whose newest version is absent and at most
-    /// the floor; their places are free again. It takes time by the addresses that were locked since the last collection,
-    /// and by those that have old versions or are absent.
+    /// the floor; their places are free again. It takes time by the addresses that were locked since the last
+    /// collection, and by those that have old versions or are absent.
     pub fn collect(&mut self, proposal: u64) -> Collected
         requires stamp { IsStamp proposal }
         ensures { (k : ℕ) → 0 < k → Adds (plain_of self.old) (Collect k proposal result) (plain_of self.new) }
@@ -417,7 +421,8 @@ impl Node {
     // Removes what a collection at this floor removes at the next touched address, and says how many versions, and
     // whether the object went.
     fn sweep_next(&mut self, floor: u64) -> (u64, bool)
-        ensures { SweepsNext floor self.old.touched.items (plain_of self.old) result self.new.touched.items (plain_of self.new) }
+        ensures { SweepsNext floor self.old.touched.items (plain_of self.old) result self.new.touched.items
+            (plain_of self.new) }
     {
         let Some(at) = self.touched.pop_front() else {
             return (0, false);
@@ -497,7 +502,8 @@ fn take_object(objects: &mut BTreeMap<Addr, Object>, at: Addr) -> Option<Object>
 
 // Removes what a collection at this floor removes at an address.
 fn sweep_at(objects: &mut BTreeMap<Addr, Object>, at: Addr, floor: u64) -> Swept
-    ensures cells { cells_of objects.new ≡ set_cell at (collected floor (cells_of objects.old at)) (cells_of objects.old) }
+    ensures cells { cells_of objects.new
+        ≡ set_cell at (collected floor (cells_of objects.old at)) (cells_of objects.old) }
     ensures swept { SweepsCell floor (cells_of objects.old at) result }
 {
     match gone_at(objects, at, floor) {
@@ -529,7 +535,8 @@ fn gone_at(objects: &BTreeMap<Addr, Object>, at: Addr, floor: u64) -> Option<Swe
 // Removes the old versions of an object that stays.
 fn cut_at(objects: &mut BTreeMap<Addr, Object>, at: Addr, floor: u64) -> Swept
     requires { goes_there floor (cells_of objects.old at) ≡ false }
-    ensures cells { cells_of objects.new ≡ set_cell at (collected floor (cells_of objects.old at)) (cells_of objects.old) }
+    ensures cells { cells_of objects.new
+        ≡ set_cell at (collected floor (cells_of objects.old at)) (cells_of objects.old) }
     ensures swept { SweepsCell floor (cells_of objects.old at) result }
 {
     match objects.get_mut(&at) {
@@ -553,7 +560,8 @@ fn cut_at(objects: &mut BTreeMap<Addr, Object>, at: Addr, floor: u64) -> Swept
 // Gives the place of an object of this bound back, where one went.
 fn give_place(places: &mut Places, past: &mut u64, at: Addr, gone: Option<u64>)
     requires { is_some gone ≡ true → (occupancy_of places.old).taken at ≡ true }
-    ensures places { occupancy_of places.new ≡ (if is_some gone then without_place at (occupancy_of places.old) else occupancy_of places.old) }
+    ensures places { occupancy_of places.new
+        ≡ (if is_some gone then without_place at (occupancy_of places.old) else occupancy_of places.old) }
     ensures past { past.new ≡ past_with gone past.old }
 {
     if let Some(bound) = gone {

@@ -121,8 +121,8 @@ impl Object {
         }
     }
 
-    /// Reads at `stamp`, which bars later puts up to it. `Memory` comes for want of memory alone, and leaves the object as
-    /// it was.
+    /// Reads at `stamp`, which bars later puts up to it. `Memory` comes for want of memory alone, and leaves the object
+    /// as it was.
     pub fn read(&mut self, alloc: Global, stamp: u64) -> Result<Found, ReadFault>
         ensures { ReadsCell stamp self.old result self.new }
     {
