@@ -143,8 +143,7 @@ newest_put a k r now (Made m ∷ es) lawful pin why =
     (λ (put : PutAt (newest (versions_there (p.cells a))) (story_from a untold es).puts). (put.0, subst (IsAmong put.0) (sym (loaded m es a lawful)) (among_first put.0 _ _ put.1), put.2 ∙ top, above, (l.puts put.0 put.1).0)) l.newest
 newest_put a k r now (e ∷ es) lawful pin why = absurd lawful
 
-change : (before rest : List Entry) (e : Entry) (r now : ℕ) (a : Addr) → Lawful (before ++ e ∷ rest) → BlamesPut r now a e
-    → (i : Installed) × IsAmong i (story a before).puts × (i.stamp ≡ now) × (r < now) × (0 < i.by.actor)
+change : (before rest : List Entry) (e : Entry) (r now : ℕ) (a : Addr) → Lawful (before ++ e ∷ rest) → BlamesPut r now a e → PutBecause r now (story a before).puts
 change before rest (Made m) r now a lawful blames = absurd blames
 change before rest e r now a lawful blames =
     let x : Stands a before (e ∷ rest) = stands a before e rest tt lawful in

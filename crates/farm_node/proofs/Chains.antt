@@ -18,6 +18,7 @@ cut_at floor s (v ∷ vs) le = cond_both (nat_le v.0 floor) _ _ (λ l. version_a
     (λ is. let low : v.0 ≤ floor = leb-true v.0 floor is in let here : v.0 ≤ s = omega arith in taken_at s v [] here ∙ sym (taken_at s v vs here))
     (λ is. ap (λ (x : Option Version). cond (nat_le v.0 s) (Some v) x) (cut_at floor s vs le))
 
+-- and the newest version
 pub newest_cut : (floor : ℕ) (vs : List Version) → newest (cut floor vs) ≡ newest vs
 newest_cut floor [] = refl
 newest_cut floor (v ∷ vs) = elim (nat_le v.0 floor) as (λ g. newest (cond g (v ∷ []) (v ∷ cut floor vs)) ≡ v.0) [ true ↦ refl | false ↦ refl ]

@@ -1,7 +1,7 @@
 -- How many objects and versions a map has.
-use Rattle.farm_node.proofs.Common.{◌≡◌, ℕ, ◌+◌, ◌-◌, ◌^◌, ◌<◌, min, List, [], ◌∷◌, length, Option, Some, refl, ap, ◌∙◌, arith, BTreeMap, IsOrdered}
-use Rattle.farm_node.proofs.Common.{btree_map_len, values, values_of, Addr, Rises, addr_order, Cell, objects_in, versions_in, NodeState, places, total}
-use Rattle.farm_node.proofs.Common.{object_count, version_count, counted, cells_of}
+use Rattle.farm_node.proofs.Common.{◌≡◌, ℕ, ◌+◌, ◌^◌, ◌<◌, List, [], ◌∷◌, length, Option, Some, refl, ap, ◌∙◌, arith, BTreeMap, IsOrdered, btree_map_len}
+use Rattle.farm_node.proofs.Common.{values, values_of, Addr, Rises, addr_order, Cell, objects_in, versions_in, NodeState, places, total, object_count}
+use Rattle.farm_node.proofs.Common.{version_count, counted, cells_of}
 use Rattle.farm_node.proofs.Totals.{sum_of, total_entries}
 use Rattle.farm_node.proofs.Sweeping.{IsPlaced}
 
@@ -26,15 +26,6 @@ pub objects_are : (objects : BTreeMap Addr Cell) (p : NodeState) → p.cells ≡
 objects_are objects p same ordered rises placed =
     ap (λ (cells : Addr → Option Cell). total objects_in cells (places p.regions)) same
     ∙ (total_entries objects_in objects p.regions refl ordered rises (λ a c is. placed a c (ap (λ (cells : Addr → Option Cell). cells a) same ∙ is)) ∙ sum_ones objects.entries)
-
-pub count_begins : (left : List Cell) (all : List Cell) → left ≡ all → counted (0 + lengths left) ≡ counted (lengths all)
-count_begins left all e = ap (λ (n : ℕ). counted n) (let z : 0 + lengths left ≡ lengths left = omega arith in z ∙ ap lengths e)
-
-pub count_more : (left rest : List Cell) (c : Cell) (count all n count' : ℕ) → left ≡ c ∷ rest → counted (count + lengths left) ≡ counted all → n ≡ length c.versions
-    → count' ≡ min (count + n) (2 ^ 64 - 1) → counted (count' + lengths rest) ≡ counted all
-count_more left rest c count all n count' front so is more =
-    let here : lengths left ≡ length c.versions + lengths rest = ap lengths front in
-    omega arith
 
 pub count_ends : (left : List Cell) (count all : ℕ) → left ≡ [] → counted (count + lengths left) ≡ counted all → count < 2 ^ 64 → count ≡ counted all
 count_ends left count all none so fits =

@@ -1,7 +1,7 @@
 -- Who holds a lock, and who may ask for one.
 use Rattle.farm_node.proofs.Common.{◌≡◌, ℕ, Bool, true, false, List, [], ◌∷◌, Option, Some, None, is_some, sym, refl, ap, ◌∙◌, inl, inr, ⊎_elim, ◌↔◌, IsTrue}
 use Rattle.farm_node.proofs.Common.{cond_both, cond-true, both_ways, Addr, TxnId, Version, Hold, Bytes, Cell, same_txn, found_at, NodeState, HeldBy, HeldNew}
-use Rattle.farm_node.proofs.Common.{HasValue, MayLock, has_lock, holds_there, has_value, is_new, may_lock}
+use Rattle.farm_node.proofs.Common.{HasValue, MayLock, has_lock, holds_there, is_new, may_lock}
 use Rattle.farm_node.proofs.Sound.{txn_eq, txn_self}
 
 pub has_lock_to : (l : Option Hold) (t : TxnId) → has_lock t l ≡ true → (h : Hold) × (l ≡ Some h) × (h.by ≡ t)
@@ -16,14 +16,13 @@ holds_from : (p : NodeState) (t : TxnId) (a : Addr) → HeldBy p t a → holds_t
 holds_from p t a held =
     ap (holds_there t) held.2 ∙ (ap (has_lock t) held.3 ∙ (ap (λ (u : TxnId). same_txn u t) held.4 ∙ txn_self t))
 
+-- the test that the program makes says who holds the address
 pub holds_iff : (p : NodeState) (t : TxnId) (a : Addr) → IsTrue (holds_there t (p.cells a)) ↔ HeldBy p t a
 holds_iff p t a = (holds_to p t a (p.cells a) refl, holds_from p t a)
 
-has_value_to : (r : ℕ) (c : Cell) → has_value r c ≡ true → (v : Bytes) × ((found_at r c.versions).value ≡ Some v)
-has_value_to r c has = by (found_at r c.versions).value refl has where
-  by : (v : Option Bytes) → (found_at r c.versions).value ≡ v → is_some v ≡ true → (v : Bytes) × ((found_at r c.versions).value ≡ Some v)
-  by None is some = absurd (cc)
-  by (Some v) is some = (v, is)
+has_value_to : (v : Option Bytes) → is_some v ≡ true → (x : Bytes) × (v ≡ Some x)
+has_value_to None some = absurd (cc)
+has_value_to (Some x) some = (x, refl)
 
 new_to : (c : Cell) → is_new (Some c) ≡ true → c.versions ≡ []
 new_to c new = by c.versions refl new where
@@ -40,7 +39,7 @@ may_to p t a r (Some c) is may = cond_both (has_lock t c.lock) _ _ (λ z. z ≡ 
     let cell : held.0 ≡ c = cc in
     inr (held.0, held.1, held.2, held.3, held.4, ap (λ (d : Cell). d.versions) cell ∙ new_to c may))
     (λ free may.
-    let v = has_value_to r c may in
+    let v = has_value_to (found_at r c.versions).value may in
     inl ((c, v.0, is, v.1), λ held. both_ways (has_lock t c.lock) free (ap (holds_there t) (sym is) ∙ holds_from p t a held))) may
 
 may_value : (p : NodeState) (t : TxnId) (a : Addr) (r : ℕ) → HasValue p a r → (HeldBy p t a → ⊥) → may_lock t r (p.cells a) ≡ true
@@ -53,5 +52,6 @@ may_new p t a r held =
     ap (may_lock t r) held.2 ∙ (cond-true (has_lock t held.0.lock) _ _ lock
     ∙ ap (λ (vs : List Version). elim vs as (λ _. Bool) [ [] ↦ true | v ∷ more ↦ false ]) held.5)
 
+-- and who may ask for its lock
 pub may_iff : (p : NodeState) (t : TxnId) (a : Addr) (r : ℕ) → IsTrue (may_lock t r (p.cells a)) ↔ MayLock p t a r
 may_iff p t a r = (may_to p t a r (p.cells a) refl, λ may. ⊎_elim (λ x. may_value p t a r x.0 x.1) (λ x. may_new p t a r x) may)

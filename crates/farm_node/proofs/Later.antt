@@ -1,7 +1,7 @@
 -- The puts of actors: each comes by a lock of an actor, above the stamp of the start.
 use Rattle.farm_node.proofs.Common.{◌≡◌, ◌⊎◌, ℕ, ◌<◌, ◌≤◌, List, [], ◌∷◌, Option, Some, None, sym, refl, ◌∙◌, subst, inl, inr, ⊎_elim, arith, cond_both, Addr}
-use Rattle.farm_node.proofs.Common.{TxnId, IsAmong, same_addr, newest, cut, Hold, Start, Entry, Made, Bytes, Cell, NodeState, loaded_cells, begun, replay_from}
-use Rattle.farm_node.proofs.Common.{Lawful, Installed, Story, story_from, untold, versions_there}
+use Rattle.farm_node.proofs.Common.{TxnId, IsAmong, same_addr, newest, cut, Hold, Start, Entry, Made, Bytes, Cell, loaded_cells, begun, replay_from, Lawful}
+use Rattle.farm_node.proofs.Common.{Installed, Story, story_from, untold, versions_there}
 use Rattle.farm_node.proofs.Sound.{sound_begun}
 use Rattle.farm_node.proofs.Steps.{Keeps, keeps_all}
 use Rattle.farm_node.proofs.Chains.{newest_cut}
@@ -64,8 +64,5 @@ later_begun a stamp [] = record { bar = omega arith; actors = tt; puts = λ i th
 later_begun a stamp (x ∷ xs) = cond_both (same_addr x.0 a) _ _ (λ c. Later stamp c stamp stamp untold)
     (λ is. record { bar = omega arith; actors = tt; puts = λ i there. absurd there; newest = inl (omega arith) }) (λ e. later_begun a stamp xs)
 
-abbrev pub LaterAt : ℕ → Addr → NodeState → Story → Type 0
-LaterAt start a p h = Later start (p.cells a) p.past p.floor h
-
-pub later_end : (a : Addr) (m : Start) (es : List Entry) → Lawful (Made m ∷ es) → LaterAt m.stamp a (replay_from (begun m) es) (story_from a untold es)
+pub later_end : (a : Addr) (m : Start) (es : List Entry) → Lawful (Made m ∷ es) → Later m.stamp ((replay_from (begun m) es).cells a) (replay_from (begun m) es).past (replay_from (begun m) es).floor (story_from a untold es)
 later_end a m es lawful = keeps_all a (λ e. Unit {0}) (Later m.stamp) (later a m.stamp) (begun m) untold es (sound_begun m lawful.0) lawful.1 (each_unit es) (later_begun a m.stamp m.heap)

@@ -112,6 +112,7 @@ checked before rest t a r w s lawful low high =
     let at_r = fixed_behind a r before rest e x (barred_less r w _ _ (omega arith) later) in
     ap (λ (v : Option Version). stamped_bytes (found_of v)) (at_s ∙ (steady r s h.puts puts low ∙ sym at_r))
 
+-- the law of puts
 pub puts : PutsHold
 puts = record {
   falls = λ log a lawful. (ends a log lawful).tells.order.0;

@@ -7,8 +7,8 @@ use Rattle.farm_node.proofs.Sound.{Sound, sound, sound_end, pinned}
 use Rattle.farm_node.proofs.Steps.{Keeps, keeps_all, no_cell}
 use Rattle.farm_node.proofs.Chains.{passed_at}
 use Rattle.farm_node.proofs.Stories.{each_unit, Ends, ends, Stands, stands}
-use Rattle.farm_node.proofs.Addresses.{set_self}
 use Rattle.farm_node.proofs.Replies.{read_cases}
+-- `set_self` is passed on: what was put at an address is there
 pub use Rattle.farm_node.proofs.Addresses.{set_self}
 
 -- a stamp that is barred sees no later put
@@ -93,12 +93,14 @@ made_holds before rest u r v placed lawful =
     let puts : (story_after a h e).puts ≡ h.puts = cond_both (same_addr a a) (with_given u (gives r (Some v)) h) h (λ z. z.puts ≡ h.puts) (λ is. refl) (λ is. refl) in
     ap (λ (v : Option Version). stamped_bytes (found_of v)) (fixed_behind a r before rest e t bars ∙ ap (λ (puts : List Installed). version_at r (versions_of puts)) puts) ∙ sym told
 
+-- the law of reads
 pub reads : ReadsHold
 reads = record { read = read_holds; made = made_holds }
 
 pin_above : (p : NodeState) (k x : ℕ) → Sound p → p.pins k ≡ Some x → p.floor ≤ x
 pin_above p k x s is = (pinned p k x s (x, is, omega arith)).1
 
+-- the law of pins
 pub pins : PinsHold
 pins = record {
   floor_below = λ log k x lawful is. pin_above (replay log) k x (sound_end log lawful) is;

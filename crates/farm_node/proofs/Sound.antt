@@ -9,11 +9,13 @@ use mathlib.Core.Logic.{dite}
 use native.Mathlib.Decide.{ℕ_discrete}
 use Rattle.farm_node.proofs.Addresses.{set_cases}
 
+-- the test of two transactions tells that they are one
 pub txn_eq : (t u : TxnId) → same_txn t u ≡ true → t ≡ u
 txn_eq t u e =
     let parts = and_parts (eqb t.actor u.actor) (eqb t.number u.number) e in
     λ i. record { actor = eqb-true t.actor u.actor parts.0 i; number = eqb-true t.number u.number parts.1 i }
 
+-- it passes at one
 pub txn_self : (t : TxnId) → same_txn t t ≡ true
 txn_self t = ap (λ (x : Bool). x && eqb t.number t.number) (eq-eqb t.actor t.actor refl) ∙ eq-eqb t.number t.number refl
 
@@ -221,6 +223,7 @@ sound_all : (p : NodeState) (es : List Entry) → Sound p → LawfulFrom p es �
 sound_all p [] s lawful = s
 sound_all p (e ∷ es) s lawful = sound_all (after p e) es (sound p e lawful.0 s) lawful.1
 
+-- the state that a lawful list leads to is sound
 pub sound_end : (log : List Entry) → Lawful log → Sound (replay log)
 sound_end [] lawful = absurd lawful
 sound_end (Made m ∷ es) lawful = sound_all (begun m) es (sound_begun m lawful.0) lawful.1

@@ -125,6 +125,7 @@ pub record Askable (t : TxnId) (found : Option Cell) : Type 0 where
   pub is : found ≡ Some cell
   pub new : (k : Hold) → cell.lock ≡ Some k → k.by ≡ t → cell.versions ≡ []
 
+-- the condition of a lock says so
 pub askable : (p : NodeState) (t : TxnId) (b : Addr) (r : ℕ) (answer : Result Locked CheckFault) → FitsLock p t b r answer → Askable t (p.cells b)
 askable p t b r answer fits = ⊎_elim
     (λ (x : HasValue p b r × (HeldBy p t b → ⊥)). record { cell = x.0.0; is = x.0.2; new = λ k lock own. absurd (x.1 (x.0.0, k, x.0.2, lock, own)) })
@@ -183,6 +184,7 @@ module _ (a : Addr) (Q : Entry → Type 0) (P : Option Cell → ℕ → ℕ → 
   collect_here floor floor' past past' h (Some c) le more reach t = cond_both (goes floor' c) _ _ (λ d. P d past' floor' h)
       (λ is. k.went c past past' floor floor' h le more is (reach is) t) (λ e. k.cut c past past' floor floor' h le more t)
 
+  -- each lawful entry keeps P
   pub keeps : (p : NodeState) (h : Story) (e : Entry) → Sound p → Fits p e → Q e → At p h → At (after p e) (story_after a h e)
   keeps p h (Read j b x (Ok found)) s fits q t = look_step x b p h (λ c is. read_open x found c (fits.2 ∙ ap (read_answer x) is)) t
   keeps p h (Alloc u r v placed) s fits q t =
@@ -211,6 +213,7 @@ module _ (a : Addr) (Q : Entry → Type 0) (P : Option Cell → ℕ → ℕ → 
       (past_over_more (new_floor p f) p.cells (places p.regions) p.past) (omega arith) (reached_sound (new_floor p f) p a s) t
   keeps p h e s fits q t = t
 
+  -- and so does a list of them
   pub keeps_all : (p : NodeState) (h : Story) (es : List Entry) → Sound p → LawfulFrom p es → AllByRecursion Q es → At p h → At (replay_from p es) (story_from a h es)
   keeps_all p h [] s lawful q t = t
   keeps_all p h (e ∷ es) s lawful q t = keeps_all (after p e) (story_after a h e) es (sound p e lawful.0 s) lawful.1 q.1 (keeps p h e s lawful.0 q.0 t)

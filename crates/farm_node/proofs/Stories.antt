@@ -148,6 +148,7 @@ pub record Ends (a : Addr) (log : List Entry) : Type 0 where
   pub sound : Sound (replay log)
   pub tells : TellsAt a (replay log) (story a log)
 
+-- what a lawful list leads to, and its story
 pub ends : (a : Addr) (log : List Entry) → Lawful log → Ends a log
 ends a [] lawful = absurd lawful
 ends a (Made m ∷ es) lawful = record {

@@ -1,9 +1,9 @@
 -- Totals over all places of a node, where one address changes.
-use Rattle.farm_node.proofs.Common.{◌≡◌, ◌⊎◌, ℕ, zero, suc, ◌+◌, ◌<◌, ◌≤◌, leb, max, cond, Bool, true, false, ◌&&◌, List, [], ◌∷◌, Option, Some, None, sym}
-use Rattle.farm_node.proofs.Common.{refl, ap, ◌∙◌, subst, inl, inr, ⊎_elim, arith, Ordering, cond_both, cond-true, cond-false, both_ways, cases_Bool}
-use Rattle.farm_node.proofs.Common.{false_from_ne_true, cases_eq, BTreeMap, is_at, IsOrdered, AllByRecursion, is_eq, lookup, keys_of, Addr, IsAmong, width}
-use Rattle.farm_node.proofs.Common.{same_addr, Rises, addr_order, IsBelow, Version, cut, Cell, is_open, is_gone, goes, collected, past_collected, set_cell}
-use Rattle.farm_node.proofs.Common.{places_in, places, total, past_over, cells_of}
+use Rattle.farm_node.proofs.Common.{◌≡◌, ℕ, zero, suc, ◌+◌, ◌<◌, ◌≤◌, leb, max, cond, Bool, true, false, ◌&&◌, List, [], ◌∷◌, Option, Some, None, sym, refl, ap}
+use Rattle.farm_node.proofs.Common.{◌∙◌, subst, inl, inr, ⊎_elim, arith, Ordering, cond_both, cond-true, cond-false, both_ways, cases_Bool, false_from_ne_true}
+use Rattle.farm_node.proofs.Common.{cases_eq, BTreeMap, is_at, IsOrdered, AllByRecursion, is_eq, lookup, keys_of, Addr, IsAmong, width, same_addr, Rises}
+use Rattle.farm_node.proofs.Common.{addr_order, IsBelow, Version, cut, Cell, is_open, is_gone, goes, collected, past_collected, set_cell, places_in, places}
+use Rattle.farm_node.proofs.Common.{total, past_over, cells_of}
 use Rattle.std.specs.List.Sorted.{IsStrictlySortedBy}
 use Rattle.std.specs.declared.cmp.Ordering.TheVariants.{Less}
 use Rattle.std.proofs.lemmas.Map.Keys.{sorted_head, sorted_tail}
@@ -31,30 +31,25 @@ occurrences_outside : (a : Addr) (region n : ℕ) (more : List Addr) → (a.regi
 occurrences_outside a region zero more outside = refl
 occurrences_outside a region (suc n) more outside =
     let place : Addr = record { region = region; offset = n } in
-    let rest : occurrences a (places_in region n more) ≡ occurrences a more = occurrences_outside a region n more lower in
-    let none : one_at a place ≡ 0 = one_elsewhere a place (λ e. apart (ap (λ (b : Addr). b.region) e) (ap (λ (b : Addr). b.offset) e)) in
-    omega arith where
-      lower : a.region ≡ region → n ≤ a.offset
-      lower r = let above : suc n ≤ a.offset = outside r in omega arith
-
-      apart : a.region ≡ region → a.offset ≡ n → ⊥
-      apart r o = let above : suc n ≤ a.offset = outside r in omega arith
+    let rest : occurrences a (places_in region n more) ≡ occurrences a more = occurrences_outside a region n more (λ r. let above : suc n ≤ a.offset = outside r in omega arith) in
+    let apart = λ (e : a ≡ place). let above : suc n ≤ a.offset = outside (λ i. (e i).region) in let same : a.offset ≡ n = (λ i. (e i).offset) in let r : ⊥ = omega arith in r in
+    let none : one_at a place ≡ 0 = one_elsewhere a place apart in
+    omega arith
 
 occurrences_inside : (a : Addr) (n : ℕ) (more : List Addr) → a.offset < n → occurrences a (places_in a.region n more) ≡ 1 + occurrences a more
 occurrences_inside a zero more low = absurd (omega arith)
-occurrences_inside a (suc n) more low = at (cases_eq a.offset n) (λ below. occurrences_inside a n more below) where
-  at : (a.offset ≡ n) ⊎ (a.offset ≡ n → ⊥) → (a.offset < n → occurrences a (places_in a.region n more) ≡ 1 + occurrences a more)
-      → occurrences a (places_in a.region (suc n) more) ≡ 1 + occurrences a more
-  at (inl o) inside =
-      let place : Addr = record { region = a.region; offset = n } in
-      let here : one_at a place ≡ 1 = one_here a place (λ i. record { region = a.region; offset = o i }) in
-      let rest : occurrences a (places_in a.region n more) ≡ occurrences a more = occurrences_outside a a.region n more (λ r. omega arith) in
-      omega arith
-  at (inr apart) inside =
-      let place : Addr = record { region = a.region; offset = n } in
-      let none : one_at a place ≡ 0 = one_elsewhere a place (λ e. apart (ap (λ (b : Addr). b.offset) e)) in
-      let rest : occurrences a (places_in a.region n more) ≡ 1 + occurrences a more = inside (omega (arith, apart)) in
-      omega arith
+occurrences_inside a (suc n) more low =
+    let place : Addr = record { region = a.region; offset = n } in
+    elim (cases_eq a.offset n) as (λ z. one_at a place + occurrences a (places_in a.region n more) ≡ 1 + occurrences a more) [
+      | inl o ↦
+          let here : one_at a place ≡ 1 = one_here a place (λ i. record { region = a.region; offset = o i }) in
+          let rest : occurrences a (places_in a.region n more) ≡ occurrences a more = occurrences_outside a a.region n more (λ r. omega arith) in
+          omega arith
+      | inr apart ↦
+          let none : one_at a place ≡ 0 = one_elsewhere a place (λ e. apart (λ i. (e i).offset)) in
+          let rest : occurrences a (places_in a.region n more) ≡ 1 + occurrences a more = occurrences_inside a n more (omega (arith, apart)) in
+          omega arith
+    ]
 
 occurrences_below : (a : Addr) (regions : List ℕ) → IsBelow a.region regions → occurrences a (places regions) ≡ 0
 occurrences_below a [] below = refl

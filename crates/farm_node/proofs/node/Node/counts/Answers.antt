@@ -1,20 +1,7 @@
 use Rattle.farm_node.proofs.Common.{sym, refl, ap, ◌∙◌, arith, values, occupancy_of, counted, plain_of}
-use Rattle.farm_node.proofs.Counts.{lengths, versions_are, objects_are, count_begins, count_more, count_ends}
+use Rattle.farm_node.proofs.Counts.{lengths, versions_are, objects_are, count_ends}
 use Rattle.farm_node.proofs.Sweeping.{placed_by}
 use Rattle.farm_node.proofs.node.Node.counts.Goals as goal
-
-pub loop-object-init : goal.loop-object-init
-loop-object-init c = record {
-  so = count_begins c.into_iter-object-iterator.result (values c.args.self.now.objects) (c.into_iter-object-iterator.ensures.into_iter_gives ∙ c.values-object-items.ensures.rest);
-  small = omega arith;
-}
-
-pub loop-object-preserved : goal.loop-object-preserved
-loop-object-preserved c = record {
-  so = count_more c.loop-object.object-iterator c.next.new.self c.in-Some.object.now c.loop-object.versions (lengths (values c.args.self.now.objects)) c.len.result c.saturating_add-versions.result
-      c.in-Some.ensures.steps c.loop-object.invariant.so c.len.ensures c.saturating_add-versions.ensures;
-  small = omega (arith, c.saturating_add-versions.ensures);
-}
 
 pub returns-clause-objects : goal.returns-clause-objects
 returns-clause-objects c =
