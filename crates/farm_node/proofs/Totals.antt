@@ -1,9 +1,8 @@
 -- Totals over all places of a node, where one address changes.
 use Rattle.farm_node.proofs.Common.{◌≡◌, ℕ, zero, suc, ◌+◌, ◌<◌, ◌≤◌, leb, max, cond, Bool, true, false, ◌&&◌, List, [], ◌∷◌, Option, Some, None, sym, refl, ap}
 use Rattle.farm_node.proofs.Common.{◌∙◌, subst, inl, inr, ⊎_elim, arith, Ordering, cond_both, cond-true, cond-false, both_ways, cases_Bool, false_from_ne_true}
-use Rattle.farm_node.proofs.Common.{cases_eq, BTreeMap, is_at, IsOrdered, AllByRecursion, is_eq, lookup, keys_of, Addr, IsAmong, width, same_addr, Rises}
-use Rattle.farm_node.proofs.Common.{addr_order, IsBelow, Version, cut, Cell, is_open, is_gone, goes, collected, past_collected, set_cell, places_in, places}
-use Rattle.farm_node.proofs.Common.{total, past_over, cells_of}
+use Rattle.farm_node.proofs.Common.{cases_eq, is_at, AllByRecursion, is_eq, lookup, keys_of, Addr, IsAmong, width, same_addr, Rises, addr_order, IsBelow}
+use Rattle.farm_node.proofs.Common.{Version, cut, Cell, is_open, is_gone, goes, collected, past_collected, set_cell, places_in, places, total, past_over}
 use Rattle.std.specs.List.Sorted.{IsStrictlySortedBy}
 use Rattle.std.specs.declared.cmp.Ordering.TheVariants.{Less}
 use Rattle.std.proofs.lemmas.Map.Keys.{sorted_head, sorted_tail}
@@ -167,7 +166,7 @@ absent_behind a [] behind = refl
 absent_behind a (e ∷ es) behind = ap (λ (o : Ordering). cond (is_eq o) (Some e.1) (cells_in es a)) behind.0 ∙ absent_behind a es behind.1
 
 module _ (count : Option Cell → ℕ) (regions : List ℕ) (none : count None ≡ 0) (rises : Rises regions) where
-  total_listed : (es : List (Addr × Cell)) → IsStrictlySortedBy addr_order (keys_of es)
+  pub total_listed : (es : List (Addr × Cell)) → IsStrictlySortedBy addr_order (keys_of es)
       → ((a : Addr) (c : Cell) → cells_in es a ≡ Some c → IsAmong a.region regions × (a.offset < width)) → total count (cells_in es) (places regions) ≡ sum_of (λ c. count (Some c)) es
   total_listed [] ordered placed = total_nothing count (places regions) none
   total_listed (e ∷ es) ordered placed =
@@ -182,8 +181,3 @@ module _ (count : Option Cell → ℕ) (regions : List ℕ) (none : count None �
         behind : (a : Addr) (c : Cell) → cells_in es a ≡ Some c → IsAmong a.region regions × (a.offset < width)
         behind a c there = ⊎_elim (λ is. placed a e.1 (cond-true (same_addr a e.0) (Some e.1) (cells_in es a) is))
             (λ other. placed a c (cond-false (same_addr a e.0) (Some e.1) (cells_in es a) other ∙ there)) (cases_Bool (same_addr a e.0))
-
-pub total_entries : (count : Option Cell → ℕ) (objects : BTreeMap Addr Cell) (regions : List ℕ) → count None ≡ 0 → IsOrdered addr_order objects → Rises regions
-    → ((a : Addr) (c : Cell) → cells_of objects a ≡ Some c → IsAmong a.region regions × (a.offset < width))
-    → total count (cells_of objects) (places regions) ≡ sum_of (λ c. count (Some c)) objects.entries
-total_entries count objects regions none ordered rises placed = total_listed count regions none rises objects.entries ordered placed
