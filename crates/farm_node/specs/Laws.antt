@@ -18,6 +18,7 @@ abbrev pub versions_there : Option Cell → List Version
 versions_there None = []
 versions_there (Some c) = c.versions
 
+-- and at an address of the state
 abbrev pub versions_at : NodeState → Addr → List Version
 versions_at p a = versions_there (p.cells a)
 

@@ -6,6 +6,7 @@ use Rattle.farm_node.specs.declared.entry.Entry.{Entry}
 use Rattle.farm_node.specs.NodeState.{NodeState, Lawful, replay}
 use Rattle.farm_node.specs.State.{cells_of, plain_from}
 
+-- the plain state of a node
 abbrev pub plain_of : Node → NodeState
 plain_of n = plain_from (cells_of n.objects) (occupancy_of n.places) n.pins.items n.past n.floor n.actors
 

@@ -30,6 +30,7 @@ pub record NodeState : Type 0 where
 abbrev pub occupancy : NodeState → Occupancy
 occupancy p = record { node = p.node; nodes = p.nodes; regions = p.regions; taken = λ a. is_some (p.cells a) }
 
+-- the cells with this one at b
 abbrev pub set_cell : Addr → Option Cell → (Addr → Option Cell) → Addr → Option Cell
 set_cell b c cells a = cond (same_addr b a) c (cells a)
 
@@ -42,6 +43,7 @@ abbrev pub places_in : ℕ → ℕ → List Addr → List Addr
 places_in region zero more = more
 places_in region (suc n) more = record { region = region; offset = n } ∷ places_in region n more
 
+-- of all regions
 abbrev pub places : List ℕ → List Addr
 places [] = []
 places (r ∷ rs) = places_in r width (places rs)
@@ -59,6 +61,7 @@ version_count p = total versions_in p.cells (places p.regions)
 
 -- collection
 
+-- the lesser of a pin, where there is one, and a stamp
 abbrev pub lesser : Option ℕ → ℕ → ℕ
 lesser None least = least
 lesser (Some pin) least = min pin least
@@ -129,12 +132,14 @@ MayLock p t a r = (HasValue p a r × (HeldBy p t a → ⊥)) ⊎ HeldNew p t a
 abbrev pub MayPut : NodeState → TxnId → Addr → ℕ → Type 0
 MayPut p t a w = (c : Cell) × (h : Hold) × (p.cells a ≡ Some c) × (c.lock ≡ Some h) × (h.by ≡ t) × (c.bound < w)
 
+-- a lock may be asked for, and its answer is the one that is due
 pub record FitsLock (p : NodeState) (t : TxnId) (a : Addr) (r : ℕ) (answer : Result Locked CheckFault) : Type 0 where
   pub pinned : PinnedBy p t.actor r
   pub stamp : IsStamp r
   pub may : MayLock p t a r
   pub due : answer ≡ lock_answer t r (p.cells a)
 
+-- and so may a check
 pub record FitsCheck (p : NodeState) (t : TxnId) (a : Addr) (r w : ℕ) (answer : Result (Unit {0}) CheckFault)
     : Type 0 where
   pub pinned : PinnedBy p t.actor r
@@ -183,6 +188,7 @@ after p (Collect k f removed) = after_collect (new_floor p f) p
 
 -- the beginning
 
+-- the loaded objects at their addresses
 abbrev pub loaded_cells : ℕ → List (Addr × Bytes) → Addr → Option Cell
 loaded_cells stamp [] a = None
 loaded_cells stamp (x ∷ xs) a = cond (same_addr x.0 a) (Some (loaded_cell stamp x.1)) (loaded_cells stamp xs a)
@@ -191,6 +197,7 @@ abbrev pub loaded_regions : List (Addr × Bytes) → List ℕ
 loaded_regions [] = []
 loaded_regions (x ∷ xs) = add_region x.0.region (loaded_regions xs)
 
+-- the state that a node begins with
 abbrev pub begun : Start → NodeState
 begun m = record {
   cells = loaded_cells m.stamp m.heap;
@@ -208,15 +215,18 @@ abbrev pub Loads : Start → List (Addr × Bytes) → Type 0
 Loads m [] = Unit {0}
 Loads m (x ∷ xs) = IsPlace (occupancy (begun m)) x.0 × (loaded_cells m.stamp xs x.0 ≡ None) × Loads m xs
 
+-- a node can begin so
 abbrev pub IsStart : Start → Type 0
 IsStart m = (m.node < m.nodes) × (m.nodes ≤ NODE_LIMIT) × (0 < m.stamp) × IsStamp m.stamp × Loads m m.heap
 
 -- the replay of a list, and the lists that are lawful
 
+-- the state that entries lead to
 abbrev pub replay_from : NodeState → List Entry → NodeState
 replay_from p [] = p
 replay_from p (e ∷ es) = replay_from (after p e) es
 
+-- each entry meets its condition in the state behind those before it
 abbrev pub LawfulFrom : NodeState → List Entry → Type 0
 LawfulFrom p [] = Unit {0}
 LawfulFrom p (e ∷ es) = Fits p e × LawfulFrom (after p e) es
@@ -226,6 +236,7 @@ abbrev pub nowhere : NodeState
 nowhere =
     record { cells = λ a. None; regions = []; pins = λ k. None; past = 0; floor = 0; node = 0; nodes = 1; actors = 0 }
 
+-- the state that a list leads to
 abbrev pub replay : List Entry → NodeState
 replay [] = nowhere
 replay (Made m ∷ es) = replay_from (begun m) es

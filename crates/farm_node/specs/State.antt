@@ -73,6 +73,7 @@ abbrev pub has_lock : TxnId → Option Hold → Bool
 has_lock t None = false
 has_lock t (Some h) = same_txn h.by t
 
+-- and of what is at an address
 abbrev pub holds_there : TxnId → Option Cell → Bool
 holds_there t None = false
 holds_there t (Some c) = has_lock t c.lock
