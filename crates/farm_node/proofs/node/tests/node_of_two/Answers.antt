@@ -1,4 +1,5 @@
-use Rattle.farm_node.proofs.Common.{◌≡◌, List, [], ◌∷◌, sym, refl, subst, arith, Addr, width, region_count, Start, Bytes, NodeState, begun, CanLoad, plain_of}
+use Rattle.farm_node.proofs.Common.{◌≡◌, List, [], ◌∷◌, sym, refl, subst, arith, Addr, Start, Bytes, NodeState, begun, CanLoad, plain_of}
+use Rattle.object_region.specs.Occupancy.{width, region_count}
 use Rattle.farm_node.proofs.node.tests.node_of_two.Goals as goal
 
 abbrev start : Start
