@@ -1,11 +1,6 @@
 -- What an entry adds to a story, said once, for every list of entries.
-use Rattle.std.proofs.Common.{◌≡◌, ℕ, cond, Bool, true, false, List, [], ◌∷◌, Some, Ok, Err, refl, ap, subst}
-use Rattle.a1_base.specs.declared.place.Addr.{Addr}
-use Rattle.a1_base.specs.declared.place.TxnId.{TxnId}
-use Rattle.object_region.specs.Occupancy.{same_addr}
-use Rattle.farm_node.specs.declared.entry.Entry.{Entry}
-use Rattle.farm_node.specs.declared.entry.Entry.TheVariants.{Made, Open, Shut, Read, Alloc, Lock, Check, Put, Unlock, Collect}
-use Rattle.farm_node.specs.Story.{Given, gives, Story, with_given, with_put, story_after, story_from, number_of}
+use Rattle.farm_node.proofs.Common.{◌≡◌, ℕ, cond, List, [], ◌∷◌, Some, Ok, refl, ◌∙◌, subst, ⊎_elim, cond-true, cond-false, cases_Bool, Addr, TxnId, same_addr}
+use Rattle.farm_node.proofs.Common.{Entry, Alloc, Lock, Put, Given, gives, Story, with_given, with_put, story_after, story_from, number_of}
 use Rattle.farm_node.proofs.Chains.{BelowAll}
 
 -- nothing, what a transaction gives, or a put; by the entry's own actor
@@ -14,27 +9,15 @@ pub data Adding (a : Addr) (e : Entry) : Type 0 where
   giving : (t : TxnId) (g : Given) → t.actor ≡ number_of e → ((h : Story) → story_after a h e ≡ with_given t g h) → Adding a e
   putting : (t : TxnId) (w : ℕ) → t.actor ≡ number_of e → ((h : Story) → story_after a h e ≡ with_put t w h) → Adding a e
 
+when_here : (a b : Addr) (e : Entry) (f : Story → Story) → ((h : Story) → story_after a h e ≡ cond (same_addr b a) (f h) h)
+    → (((h : Story) → story_after a h e ≡ f h) → Adding a e) → Adding a e
+when_here a b e f is adds = ⊎_elim (λ yes. adds (λ h. is h ∙ cond-true (same_addr b a) (f h) h yes)) (λ other. nothing (λ h. is h ∙ cond-false (same_addr b a) (f h) h other)) (cases_Bool (same_addr b a))
+
 pub adding : (a : Addr) (e : Entry) → Adding a e
-adding a (Made m) = nothing (λ h. refl)
-adding a (Open k c x) = nothing (λ h. refl)
-adding a (Shut k) = nothing (λ h. refl)
-adding a (Read k b s answer) = nothing (λ h. refl)
-adding a (Alloc t r v placed) = by (same_addr placed.at a) refl where
-  by : (g : Bool) → same_addr placed.at a ≡ g → Adding a (Alloc t r v placed)
-  by true is = giving t (gives r (Some v)) refl (λ h. ap (λ (g : Bool). cond g (with_given t (gives r (Some v)) h) h) is)
-  by false is = nothing (λ h. ap (λ (g : Bool). cond g (with_given t (gives r (Some v)) h) h) is)
-adding a (Lock t b r new (Ok locked)) = by (same_addr b a) refl where
-  by : (g : Bool) → same_addr b a ≡ g → Adding a (Lock t b r new (Ok locked))
-  by true is = giving t (gives r new) refl (λ h. ap (λ (g : Bool). cond g (with_given t (gives r new) h) h) is)
-  by false is = nothing (λ h. ap (λ (g : Bool). cond g (with_given t (gives r new) h) h) is)
-adding a (Lock t b r new (Err fault)) = nothing (λ h. refl)
-adding a (Check t b r w answer) = nothing (λ h. refl)
-adding a (Put t b w) = by (same_addr b a) refl where
-  by : (g : Bool) → same_addr b a ≡ g → Adding a (Put t b w)
-  by true is = putting t w refl (λ h. ap (λ (g : Bool). cond g (with_put t w h) h) is)
-  by false is = nothing (λ h. ap (λ (g : Bool). cond g (with_put t w h) h) is)
-adding a (Unlock t b) = nothing (λ h. refl)
-adding a (Collect k f removed) = nothing (λ h. refl)
+adding a (Alloc t r v placed) = when_here a placed.at _ (with_given t (gives r (Some v))) (λ h. refl) (λ is. giving t (gives r (Some v)) refl is)
+adding a (Lock t b r new (Ok locked)) = when_here a b _ (with_given t (gives r new)) (λ h. refl) (λ is. giving t (gives r new) refl is)
+adding a (Put t b w) = when_here a b _ (with_put t w) (λ h. refl) (λ is. putting t w refl is)
+adding a e = nothing (λ h. refl)
 
 -- puts that are all at most n in the end are so at each point before
 pub below_before : (a : Addr) (n : ℕ) (h : Story) (es : List Entry) → BelowAll n (story_from a h es).puts → BelowAll n h.puts

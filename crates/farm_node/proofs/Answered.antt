@@ -1,22 +1,11 @@
 -- The stamps that lawful entries answer are in range.
-use Rattle.std.proofs.Common.{ℕ, nat_le, nat_lt, cond, true, false, List, [], ◌∷◌, ◌++◌, Option, Some, None, Result, Ok, Err, sym, ap, subst, arith}
-use Rattle.a1_base.specs.declared.place.Addr.{Addr}
-use Rattle.a1_base.specs.declared.place.TxnId.{TxnId}
-use Rattle.version_chain.specs.Versions.{Version, version_at, newest}
-use Rattle.farm_node.specs.declared.hold.Hold.{Hold}
-use Rattle.farm_node.specs.declared.entry.Found.{Found}
-use Rattle.farm_node.specs.declared.entry.Locked.{Locked}
-use Rattle.farm_node.specs.declared.entry.Collected.{Collected}
-use Rattle.farm_node.specs.declared.entry.CheckFault.{CheckFault}
-use Rattle.farm_node.specs.declared.entry.CheckFault.TheVariants.{Held, Changed}
-use Rattle.farm_node.specs.declared.entry.Entry.{Entry}
-use Rattle.farm_node.specs.declared.entry.Entry.TheVariants.{Made, Open, Shut, Read, Alloc, Lock, Check, Put, Unlock, Collect}
-use Rattle.farm_node.specs.Cell.{Bytes, Cell, found_of, found_at, read_answer, unless_changed, lock_given, lock_answer, check_answer, same_txn}
-use Rattle.farm_node.specs.NodeState.{NodeState, Fits, Lawful, replay}
-use Rattle.a1_base.specs.Stamps.{IsStamp}
-use Rattle.farm_node.specs.Locks.{StampsBelow, AnswersStamps}
+use Rattle.farm_node.proofs.Common.{ℕ, nat_le, cond, true, false, List, [], ◌∷◌, ◌++◌, Option, Some, None, Result, sym, ap, subst, arith, Addr, TxnId, IsStamp}
+use Rattle.farm_node.proofs.Common.{Version, version_at, newest, Found, Locked, Collected, CheckFault, Entry, Made, Open, Read, Alloc, Lock, Check, Collect}
+use Rattle.farm_node.proofs.Common.{Bytes, Cell, found_of, found_at, read_answer, lock_answer, check_answer, NodeState, Fits, replay, Lawful, StampsBelow}
+use Rattle.farm_node.proofs.Common.{AnswersStamps}
 use Rattle.farm_node.proofs.Sound.{Here, Sits, Sound, sound, less_max}
 use Rattle.farm_node.proofs.Stories.{Stands, stands}
+use Rattle.farm_node.proofs.Replies.{read_cases, lock_cases, check_cases}
 
 found_stamp : (s : ℕ) (vs : List Version) → StampsBelow vs → IsStamp (found_at s vs).stamp
 found_stamp s [] low = omega arith
@@ -26,50 +15,32 @@ newest_stamp : (vs : List Version) → StampsBelow vs → IsStamp (newest vs)
 newest_stamp [] low = omega arith
 newest_stamp (v ∷ vs) low = low.0
 
-unless_changed_is : {X : Type 0} (P : Result X CheckFault → Type 0) (r : ℕ) (c : Cell) (x : X) → P (Err (Changed (found_at r c.versions).stamp (newest c.versions))) → P (Ok x) → P (unless_changed r c x)
-unless_changed_is P r c x changed same = elim (nat_lt r (newest c.versions)) as (λ g. P (cond g (Err (Changed (found_at r c.versions).stamp (newest c.versions))) (Ok x))) [ true ↦ changed | false ↦ same ]
-
 -- the answers that are due at an address
 
 module _ (regions : List ℕ) (a : Addr) where
   read_stamps : (k s : ℕ) (c : Option Cell) → Here (Sits regions a) c → AnswersStamps (Read k a s (read_answer s c))
   read_stamps k s None sits = omega arith
-  read_stamps k s (Some c) sits = by c.lock where
-    found : IsStamp (found_at s c.versions).stamp
-    found = found_stamp s c.versions sits.versions
-
-    by : (l : Option Hold) → AnswersStamps (Read k a s (elim l as (λ _. Result Found TxnId) [ None ↦ Ok (found_at s c.versions) | Some h ↦ cond (nat_lt s (newest c.versions)) (Ok (found_at s c.versions)) (Err h.by) ]))
-    by None = found
-    by (Some h) = elim (nat_lt s (newest c.versions)) as (λ g. AnswersStamps (Read k a s (cond g (Ok (found_at s c.versions)) (Err h.by)))) [ true ↦ found | false ↦ tt ]
+  read_stamps k s (Some c) sits = read_cases s c (λ z. AnswersStamps (Read k a s z)) (λ free. found_stamp s c.versions sits.versions) (λ h is. tt)
 
   lock_stamps : (t : TxnId) (r : ℕ) (new : Option Bytes) (c : Option Cell) → Here (Sits regions a) c → AnswersStamps (Lock t a r new (lock_answer t r c))
   lock_stamps t r new None sits = (omega arith, omega arith)
-  lock_stamps t r new (Some c) sits = by c.lock where
-    by : (l : Option Hold)
-        → AnswersStamps (Lock t a r new (elim l as (λ _. Result Locked CheckFault) [ None ↦ unless_changed r c (lock_given (newest c.versions) c.bound) | Some h ↦ cond (same_txn h.by t) (Ok (lock_given 0 c.bound)) (Err (Held h.by)) ]))
-    by None = unless_changed_is (λ z. AnswersStamps (Lock t a r new z)) r c (lock_given (newest c.versions) c.bound)
-        (found_stamp r c.versions sits.versions, newest_stamp c.versions sits.versions)
-        (newest_stamp c.versions sits.versions, sits.bound)
-    by (Some h) = elim (same_txn h.by t) as (λ g. AnswersStamps (Lock t a r new (cond g (Ok (lock_given 0 c.bound)) (Err (Held h.by))))) [ true ↦ (omega arith, sits.bound) | false ↦ tt ]
+  lock_stamps t r new (Some c) sits = lock_cases t r c (λ z. AnswersStamps (Lock t a r new z)) (λ h is. tt)
+      (λ above. (found_stamp r c.versions sits.versions, newest_stamp c.versions sits.versions))
+      (λ is low. (newest_stamp c.versions sits.versions, sits.bound)) (λ h is own. (omega arith, sits.bound))
 
   check_stamps : (t : TxnId) (r w : ℕ) (c : Option Cell) → Here (Sits regions a) c → AnswersStamps (Check t a r w (check_answer r c))
   check_stamps t r w None sits = tt
-  check_stamps t r w (Some c) sits = by c.lock where
-    by : (l : Option Hold) → AnswersStamps (Check t a r w (elim l as (λ _. Result (Unit {0}) CheckFault) [ None ↦ unless_changed r c tt | Some h ↦ Err (Held h.by) ]))
-    by None = unless_changed_is (λ z. AnswersStamps (Check t a r w z)) r c tt (found_stamp r c.versions sits.versions, newest_stamp c.versions sits.versions) tt
-    by (Some h) = tt
+  check_stamps t r w (Some c) sits = check_cases r c (λ z. AnswersStamps (Check t a r w z)) (λ h is. tt)
+      (λ above. (found_stamp r c.versions sits.versions, newest_stamp c.versions sits.versions)) (λ is low. tt)
 
 fits_stamps : (p : NodeState) (e : Entry) → Sound p → Fits p e → AnswersStamps e
-fits_stamps p (Made m) t fits = tt
 fits_stamps p (Open k c x) t fits = subst (λ (z : ℕ). IsStamp z) (sym fits.4) (less_max c p.floor _ fits.3 t.floor)
-fits_stamps p (Shut k) t fits = tt
 fits_stamps p (Read k a s answer) t fits = subst (λ (z : Result Found TxnId). AnswersStamps (Read k a s z)) (sym fits.2) (read_stamps p.regions a k s (p.cells a) (t.sits a))
 fits_stamps p (Alloc u r v placed) t fits = subst (λ (z : ℕ). IsStamp z) (sym fits.3) (less_max p.past r _ t.past fits.1)
 fits_stamps p (Lock u a r new answer) t fits = subst (λ (z : Result Locked CheckFault). AnswersStamps (Lock u a r new z)) (sym fits.due) (lock_stamps p.regions a u r new (p.cells a) (t.sits a))
 fits_stamps p (Check u a r w answer) t fits = subst (λ (z : Result (Unit {0}) CheckFault). AnswersStamps (Check u a r w z)) (sym fits.due) (check_stamps p.regions a u r w (p.cells a) (t.sits a))
-fits_stamps p (Put u a w) t fits = tt
-fits_stamps p (Unlock u a) t fits = tt
 fits_stamps p (Collect k f removed) t fits = subst (λ (z : ℕ). IsStamp z) (sym (ap (λ (z : Collected). z.floor) fits.2)) (sound p (Collect k f removed) fits t).floor
+fits_stamps p e t fits = tt
 
 -- `stands` speaks of one address as well; here it may be any
 any_addr : Addr

@@ -1,24 +1,9 @@
 -- Who and what a conflict blames, and the ranges of stamps.
-use Rattle.std.proofs.Common.{◌≡◌, ℕ, ◌<◌, ◌≤◌, nat_lt, cond, Bool, true, false, List, [], ◌∷◌, ◌++◌, Option, Some, None, Result, Ok, Err, sym, refl, ap, ◌∙◌, subst, inl, inr, ⊎_elim, arith}
-use Rattle.std.proofs.lemmas.Bool.{ltb-true}
-use Rattle.a1_base.specs.declared.place.Addr.{Addr}
-use Rattle.a1_base.specs.declared.place.TxnId.{TxnId}
-use Rattle.object_region.specs.Occupancy.{same_addr}
-use Rattle.version_chain.specs.Versions.{newest}
-use Rattle.farm_node.specs.declared.hold.Hold.{Hold}
-use Rattle.farm_node.specs.declared.entry.Found.{Found}
-use Rattle.farm_node.specs.declared.entry.Locked.{Locked}
-use Rattle.farm_node.specs.declared.entry.CheckFault.{CheckFault}
-use Rattle.farm_node.specs.declared.entry.CheckFault.TheVariants.{Held, Changed}
-use Rattle.farm_node.specs.declared.entry.Entry.{Entry}
-use Rattle.farm_node.specs.declared.entry.Entry.TheVariants.{Made, Read, Alloc, Lock, Check}
-use Rattle.farm_node.specs.Cell.{Bytes, Cell, found_at, read_answer, unless_changed, lock_given, lock_answer, check_answer, same_txn, loaded_cell}
-use Rattle.farm_node.specs.NodeState.{PinnedBy, FitsLock, FitsCheck, loaded_cells, begun, Lawful, replay}
-use Rattle.farm_node.specs.Story.{Installed, Story, story, story_from, untold, loaded_puts}
-use Rattle.farm_node.specs.Laws.{versions_there}
-use Rattle.a1_base.specs.Lists.{IsAmong}
-use Rattle.std.specs.List.{AllByRecursion}
-use Rattle.farm_node.specs.Locks.{Takes, BlamesHolder, BlamesPut, LocksHold, RangesHold}
+use Rattle.farm_node.proofs.Common.{◌≡◌, ℕ, ◌<◌, ◌≤◌, List, [], ◌∷◌, ◌++◌, Option, Some, None, Ok, Err, sym, refl, ap, ◌∙◌, subst, inl, inr, ⊎_elim, arith}
+use Rattle.farm_node.proofs.Common.{cond_both, AllByRecursion, Addr, TxnId, IsAmong, same_addr, newest, cut, Hold, Held, Changed, Entry, Made, Read, Alloc}
+use Rattle.farm_node.proofs.Common.{Lock, Check, Bytes, Cell, read_answer, lock_answer, check_answer, NodeState, PinnedBy, Fits, loaded_cells, begun, replay}
+use Rattle.farm_node.proofs.Common.{Lawful, Installed, Story, story_from, untold, story, versions_there, Takes, BlamesHolder, BlamesPut}
+use Rattle.farm_node.specs.Locks.{LocksHold, RangesHold}
 use Rattle.farm_node.proofs.Sound.{Here, Sits, PinOk, sound_begun, sound_end, pinned}
 use Rattle.farm_node.proofs.Steps.{Keeps, keeps_all}
 use Rattle.farm_node.proofs.Stories.{Stands, stands}
@@ -26,6 +11,7 @@ use Rattle.farm_node.proofs.LocksStay.{below, stays, pin}
 use Rattle.farm_node.proofs.Later.{PutAt, later_end}
 use Rattle.farm_node.proofs.PutsStay.{loaded}
 use Rattle.farm_node.proofs.Answered.{answered}
+use Rattle.farm_node.proofs.Replies.{read_cases, lock_cases, check_cases}
 
 -- who holds an address took it by an entry
 
@@ -64,10 +50,7 @@ among_self (e ∷ es) = (inl refl, among_more es e es (among_self es))
 
 took_begun : (a : Addr) (log : List Entry) (stamp : ℕ) (heap : List (Addr × Bytes)) → TookAt a log (loaded_cells stamp heap a)
 took_begun a log stamp [] = tt
-took_begun a log stamp (x ∷ xs) = by (same_addr x.0 a) (took_begun a log stamp xs) where
-  by : (g : Bool) → TookAt a log (loaded_cells stamp xs a) → TookAt a log (cond g (Some (loaded_cell stamp x.1)) (loaded_cells stamp xs a))
-  by true more = tt
-  by false more = more
+took_begun a log stamp (x ∷ xs) = cond_both (same_addr x.0 a) _ _ (TookAt a log) (λ is. tt) (λ e. took_begun a log stamp xs)
 
 took_end : (a : Addr) (log : List Entry) → Lawful log → TookAt a log ((replay log).cells a)
 took_end a [] lawful = absurd lawful
@@ -84,41 +67,24 @@ HeldBecause t found = (c : Cell) × (k : Hold) × (found ≡ Some c) × (c.lock 
 module _ (t : TxnId) where
   read_held : (s : ℕ) (found : Option Cell) → Err t ≡ read_answer s found → HeldBecause t found
   read_held s None due = cc
-  read_held s (Some c) due = by c.lock refl due where
-    held : (k : Hold) (g : Bool) → Err t ≡ cond g (Ok (found_at s c.versions)) (Err k.by) → k.by ≡ t
-    held k true due = cc
-    held k false due = cc
-
-    by : (l : Option Hold) → c.lock ≡ l → Err t ≡ elim l as (λ _. Result Found TxnId) [ None ↦ Ok (found_at s c.versions) | Some h ↦ cond (nat_lt s (newest c.versions)) (Ok (found_at s c.versions)) (Err h.by) ]
-        → HeldBecause t (Some c)
-    by None is due = cc
-    by (Some k) is due = (c, k, refl, is, held k (nat_lt s (newest c.versions)) due)
-
-  not_changed : {X : Type 0} (r : ℕ) (c : Cell) (x : X) → Err (Held t) ≡ unless_changed r c x → ⊥
-  not_changed r c x due = by (nat_lt r (newest c.versions)) due where
-    by : (g : Bool) → Err (Held t) ≡ cond g (Err (Changed (found_at r c.versions).stamp (newest c.versions))) (Ok x) → ⊥
-    by true due = cc
-    by false due = cc
+  read_held s (Some c) due = read_cases s c (λ z. Err t ≡ z → HeldBecause t (Some c)) (λ free e. absurd (cc)) (λ k is e. (c, k, refl, is, (cc))) due
 
   lock_held : (u : TxnId) (r : ℕ) (found : Option Cell) → Err (Held t) ≡ lock_answer u r found → HeldBecause t found
   lock_held u r None due = cc
-  lock_held u r (Some c) due = by c.lock refl due where
-    held : (k : Hold) (g : Bool) → Err (Held t) ≡ cond g (Ok (lock_given 0 c.bound)) (Err (Held k.by)) → k.by ≡ t
-    held k true due = cc
-    held k false due = cc
-
-    by : (l : Option Hold) → c.lock ≡ l
-        → Err (Held t) ≡ elim l as (λ _. Result Locked CheckFault) [ None ↦ unless_changed r c (lock_given (newest c.versions) c.bound) | Some h ↦ cond (same_txn h.by u) (Ok (lock_given 0 c.bound)) (Err (Held h.by)) ]
-        → HeldBecause t (Some c)
-    by None is due = absurd (not_changed r c (lock_given (newest c.versions) c.bound) due)
-    by (Some k) is due = (c, k, refl, is, held k (same_txn k.by u) due)
+  lock_held u r (Some c) due = lock_cases u r c (λ z. Err (Held t) ≡ z → HeldBecause t (Some c))
+      (λ k is e. (c, k, refl, is, (cc))) (λ above e. absurd (cc)) (λ is low e. absurd (cc)) (λ k is own e. absurd (cc)) due
 
   check_held : (r : ℕ) (found : Option Cell) → Err (Held t) ≡ check_answer r found → HeldBecause t found
   check_held r None due = cc
-  check_held r (Some c) due = by c.lock refl due where
-    by : (l : Option Hold) → c.lock ≡ l → Err (Held t) ≡ elim l as (λ _. Result (Unit {0}) CheckFault) [ None ↦ unless_changed r c tt | Some h ↦ Err (Held h.by) ] → HeldBecause t (Some c)
-    by None is due = absurd (not_changed r c tt due)
-    by (Some k) is due = (c, k, refl, is, (let e : Err (Held t) ≡ Err (Held k.by) = due in cc))
+  check_held r (Some c) due = check_cases r c (λ z. Err (Held t) ≡ z → HeldBecause t (Some c)) (λ k is e. (c, k, refl, is, (cc))) (λ above e. absurd (cc)) (λ is low e. absurd (cc)) due
+
+held_by : (p : NodeState) (e : Entry) (t : TxnId) (a : Addr) → BlamesHolder t a e → Fits p e → HeldBecause t (p.cells a)
+held_by p (Read k b s (Err by)) t a blames fits = read_held t s (p.cells a) (ap Err (sym blames.1) ∙ (fits.2 ∙ ap (λ (z : Addr). read_answer s (p.cells z)) blames.0))
+held_by p (Lock u b r new (Err (Held by))) t a blames fits =
+    lock_held t u r (p.cells a) (ap (λ (z : TxnId). Err (Held z)) (sym blames.1) ∙ (fits.due ∙ ap (λ (z : Addr). lock_answer u r (p.cells z)) blames.0))
+held_by p (Check u b r w (Err (Held by))) t a blames fits =
+    check_held t r (p.cells a) (ap (λ (z : TxnId). Err (Held z)) (sym blames.1) ∙ (fits.due ∙ ap (λ (z : Addr). check_answer r (p.cells z)) blames.0))
+held_by p e t a blames fits = absurd blames
 
 took_by : (a : Addr) (log : List Entry) (t : TxnId) → Lawful log → HeldBecause t ((replay log).cells a) → (d : Entry) × IsAmong d log × Takes t a d
 took_by a log t lawful why =
@@ -126,18 +92,10 @@ took_by a log t lawful why =
     (subst (λ (l : Option Hold). TookBy a log l) why.3 (subst (λ (c : Option Cell). TookAt a log c) why.2 (took_end a log lawful)))
 
 holder : (before rest : List Entry) (e : Entry) (t : TxnId) (a : Addr) → Lawful (before ++ e ∷ rest) → BlamesHolder t a e → (d : Entry) × IsAmong d before × Takes t a d
-holder before rest (Read k b s (Err by)) t a lawful blames =
-    let x : Stands a before (Read k b s (Err by) ∷ rest) = stands a before (Read k b s (Err by)) rest tt lawful in
-    took_by a before t x.begins (read_held t s ((replay before).cells a) (ap Err (sym blames.1) ∙ (x.lawful.0.2 ∙ ap (λ (z : Addr). read_answer s ((replay before).cells z)) blames.0)))
-holder before rest (Lock u b r new (Err (Held by))) t a lawful blames =
-    let x : Stands a before (Lock u b r new (Err (Held by)) ∷ rest) = stands a before (Lock u b r new (Err (Held by))) rest tt lawful in
-    let fits : FitsLock (replay before) u b r (Err (Held by)) = x.lawful.0 in
-    took_by a before t x.begins (lock_held t u r ((replay before).cells a) (ap (λ (z : TxnId). Err (Held z)) (sym blames.1) ∙ (fits.due ∙ ap (λ (z : Addr). lock_answer u r ((replay before).cells z)) blames.0)))
-holder before rest (Check u b r w (Err (Held by))) t a lawful blames =
-    let x : Stands a before (Check u b r w (Err (Held by)) ∷ rest) = stands a before (Check u b r w (Err (Held by))) rest tt lawful in
-    let fits : FitsCheck (replay before) u b r w (Err (Held by)) = x.lawful.0 in
-    took_by a before t x.begins (check_held t r ((replay before).cells a) (ap (λ (z : TxnId). Err (Held z)) (sym blames.1) ∙ (fits.due ∙ ap (λ (z : Addr). check_answer r ((replay before).cells z)) blames.0)))
-holder before rest e t a lawful blames = absurd blames
+holder before rest (Made m) t a lawful blames = absurd blames
+holder before rest e t a lawful blames =
+    let x : Stands a before (e ∷ rest) = stands a before e rest tt lawful in
+    took_by a before t x.begins (held_by (replay before) e t a blames x.lawful.0)
 
 -- the stamp that is blamed
 
@@ -145,34 +103,25 @@ abbrev ChangedBecause : ℕ → ℕ → Option Cell → Type 0
 ChangedBecause r now found = (c : Cell) × (found ≡ Some c) × (r < now) × (newest c.versions ≡ now)
 
 module _ (seen now : ℕ) where
-  changed_is : {X : Type 0} (r : ℕ) (c : Cell) (x : X) → Err (Changed seen now) ≡ unless_changed r c x → ChangedBecause r now (Some c)
-  changed_is r c x due = by (nat_lt r (newest c.versions)) refl due where
-    by : (g : Bool) → nat_lt r (newest c.versions) ≡ g → Err (Changed seen now) ≡ cond g (Err (Changed (found_at r c.versions).stamp (newest c.versions))) (Ok x) → ChangedBecause r now (Some c)
-    by true is due =
-        let same : newest c.versions ≡ now = cc in
-        let low : r < newest c.versions = ltb-true r (newest c.versions) is in
-        (c, refl, omega arith, same)
-    by false is due = cc
-
   lock_changed : (t : TxnId) (r : ℕ) (found : Option Cell) → Err (Changed seen now) ≡ lock_answer t r found → ChangedBecause r now found
   lock_changed t r None due = cc
-  lock_changed t r (Some c) due = by c.lock due where
-    held : (k : Hold) (g : Bool) → Err (Changed seen now) ≡ cond g (Ok (lock_given 0 c.bound)) (Err (Held k.by)) → ChangedBecause r now (Some c)
-    held k true due = cc
-    held k false due = cc
-
-    by : (l : Option Hold)
-        → Err (Changed seen now) ≡ elim l as (λ _. Result Locked CheckFault) [ None ↦ unless_changed r c (lock_given (newest c.versions) c.bound) | Some h ↦ cond (same_txn h.by t) (Ok (lock_given 0 c.bound)) (Err (Held h.by)) ]
-        → ChangedBecause r now (Some c)
-    by None due = changed_is r c (lock_given (newest c.versions) c.bound) due
-    by (Some k) due = held k (same_txn k.by t) due
+  lock_changed t r (Some c) due = lock_cases t r c (λ z. Err (Changed seen now) ≡ z → ChangedBecause r now (Some c)) (λ k is e. absurd (cc))
+      (λ above e. let same : newest c.versions ≡ now = cc in (c, refl, omega arith, same)) (λ is low e. absurd (cc)) (λ k is own e. absurd (cc)) due
 
   check_changed : (r : ℕ) (found : Option Cell) → Err (Changed seen now) ≡ check_answer r found → ChangedBecause r now found
   check_changed r None due = cc
-  check_changed r (Some c) due = by c.lock due where
-    by : (l : Option Hold) → Err (Changed seen now) ≡ elim l as (λ _. Result (Unit {0}) CheckFault) [ None ↦ unless_changed r c tt | Some h ↦ Err (Held h.by) ] → ChangedBecause r now (Some c)
-    by None due = changed_is r c tt due
-    by (Some k) due = cc
+  check_changed r (Some c) due = check_cases r c (λ z. Err (Changed seen now) ≡ z → ChangedBecause r now (Some c)) (λ k is e. absurd (cc))
+      (λ above e. let same : newest c.versions ≡ now = cc in (c, refl, omega arith, same)) (λ is low e. absurd (cc)) due
+
+-- who asked is pinned at the read stamp
+changed_by : (p : NodeState) (e : Entry) (r now : ℕ) (a : Addr) → BlamesPut r now a e → Fits p e → (k : ℕ) × PinnedBy p k r × ChangedBecause r now (p.cells a)
+changed_by p (Lock u b q new (Err (Changed s n))) r now a blames fits =
+    let due : Err (Changed s now) ≡ lock_answer u r (p.cells a) = ap (λ (z : ℕ). Err (Changed s z)) (sym blames.2) ∙ (fits.due ∙ (λ i. lock_answer u (blames.1 i) (p.cells (blames.0 i)))) in
+    (u.actor, subst (PinnedBy p u.actor) blames.1 fits.pinned, lock_changed s now u r (p.cells a) due)
+changed_by p (Check u b q w (Err (Changed s n))) r now a blames fits =
+    let due : Err (Changed s now) ≡ check_answer r (p.cells a) = ap (λ (z : ℕ). Err (Changed s z)) (sym blames.2) ∙ (fits.due ∙ (λ i. check_answer (blames.1 i) (p.cells (blames.0 i)))) in
+    (u.actor, subst (PinnedBy p u.actor) blames.1 fits.pinned, check_changed s now r (p.cells a) due)
+changed_by p e r now a blames fits = absurd blames
 
 abbrev PutBecause : ℕ → ℕ → List Installed → Type 0
 PutBecause r now puts = (i : Installed) × IsAmong i puts × (i.stamp ≡ now) × (r < now) × (0 < i.by.actor)
@@ -186,31 +135,20 @@ newest_put : (a : Addr) (k r now : ℕ) (log : List Entry) → Lawful log → Pi
 newest_put a k r now [] lawful pin why = absurd lawful
 newest_put a k r now (Made m ∷ es) lawful pin why =
     let l = later_end a m es lawful in
-    let low : (replay (Made m ∷ es)).floor ≤ r = (pinned (replay (Made m ∷ es)) k r (sound_end (Made m ∷ es) lawful) pin).1 in
+    let p : NodeState = replay (Made m ∷ es) in
+    let low : p.floor ≤ r = (pinned p k r (sound_end (Made m ∷ es) lawful) pin).1 in
     let above : r < now = why.2 in
-    let top : newest (versions_there ((replay (Made m ∷ es)).cells a)) ≡ now = ap (λ (c : Option Cell). newest (versions_there c)) why.1 ∙ why.3 in
-    ⊎_elim
-    (λ (old : newest (versions_there ((replay (Made m ∷ es)).cells a)) ≤ (replay (Made m ∷ es)).floor). absurd (omega arith))
-    (λ (put : PutAt (newest (versions_there ((replay (Made m ∷ es)).cells a))) (story_from a untold es).puts).
-    (put.0, subst (λ (puts : List Installed). IsAmong put.0 puts) (sym (loaded m es a lawful)) (among_first put.0 (story_from a untold es).puts (loaded_puts a m.stamp m.heap) put.1), put.2 ∙ top, above, (l.puts put.0 put.1).0))
-    l.newest
+    let top : newest (versions_there (p.cells a)) ≡ now = ap (λ (c : Option Cell). newest (versions_there c)) why.1 ∙ why.3 in
+    ⊎_elim (λ (old : newest (versions_there (p.cells a)) ≤ p.floor). absurd (omega arith))
+    (λ (put : PutAt (newest (versions_there (p.cells a))) (story_from a untold es).puts). (put.0, subst (IsAmong put.0) (sym (loaded m es a lawful)) (among_first put.0 _ _ put.1), put.2 ∙ top, above, (l.puts put.0 put.1).0)) l.newest
 newest_put a k r now (e ∷ es) lawful pin why = absurd lawful
 
-change : (before rest : List Entry) (e : Entry) (r now : ℕ) (a : Addr) → Lawful (before ++ e ∷ rest) → BlamesPut r now a e
-    → (i : Installed) × IsAmong i (story a before).puts × (i.stamp ≡ now) × (r < now) × (0 < i.by.actor)
-change before rest (Lock u b q new (Err (Changed s n))) r now a lawful blames =
-    let x : Stands a before (Lock u b q new (Err (Changed s n)) ∷ rest) = stands a before (Lock u b q new (Err (Changed s n))) rest tt lawful in
-    let fits : FitsLock (replay before) u b q (Err (Changed s n)) = x.lawful.0 in
-    newest_put a u.actor r now before x.begins (subst (λ (z : ℕ). PinnedBy (replay before) u.actor z) blames.1 fits.pinned)
-    (lock_changed s now u r ((replay before).cells a)
-    (ap (λ (z : ℕ). Err (Changed s z)) (sym blames.2) ∙ (fits.due ∙ ap (λ (z : Addr × ℕ). lock_answer u z.1 ((replay before).cells z.0)) (λ i. (blames.0 i, blames.1 i)))))
-change before rest (Check u b q w (Err (Changed s n))) r now a lawful blames =
-    let x : Stands a before (Check u b q w (Err (Changed s n)) ∷ rest) = stands a before (Check u b q w (Err (Changed s n))) rest tt lawful in
-    let fits : FitsCheck (replay before) u b q w (Err (Changed s n)) = x.lawful.0 in
-    newest_put a u.actor r now before x.begins (subst (λ (z : ℕ). PinnedBy (replay before) u.actor z) blames.1 fits.pinned)
-    (check_changed s now r ((replay before).cells a)
-    (ap (λ (z : ℕ). Err (Changed s z)) (sym blames.2) ∙ (fits.due ∙ ap (λ (z : Addr × ℕ). check_answer z.1 ((replay before).cells z.0)) (λ i. (blames.0 i, blames.1 i)))))
-change before rest e r now a lawful blames = absurd blames
+change : (before rest : List Entry) (e : Entry) (r now : ℕ) (a : Addr) → Lawful (before ++ e ∷ rest) → BlamesPut r now a e → PutBecause r now (story a before).puts
+change before rest (Made m) r now a lawful blames = absurd blames
+change before rest e r now a lawful blames =
+    let x : Stands a before (e ∷ rest) = stands a before e rest tt lawful in
+    let by = changed_by (replay before) e r now a blames x.lawful.0 in
+    newest_put a by.0 r now before x.begins by.1 by.2
 
 pub locks : LocksHold
 locks = record { below = below; stays = stays; pin = pin; holder = holder; change = change }
@@ -221,8 +159,6 @@ ranges = record {
       let sits : Sits (replay log).regions a c = subst (λ (z : Option Cell). Here (Sits (replay log).regions a) z) is ((sound_end log lawful).sits a) in
       (sits.bound, sits.versions);
   past = λ log lawful. ((sound_end log lawful).past, (sound_end log lawful).floor);
-  pin = λ log k x lawful is.
-      let ok : PinOk (replay log).actors (replay log).floor k (Some x) = subst (λ (z : Option ℕ). PinOk (replay log).actors (replay log).floor k z) is ((sound_end log lawful).pins k) in
-      ok.3;
+  pin = λ log k x lawful is. (subst (PinOk (replay log).actors (replay log).floor k) is ((sound_end log lawful).pins k)).3;
   answered = answered;
 }

@@ -1,31 +1,24 @@
 -- Lists of versions, and of puts as versions.
-use Rattle.std.proofs.Common.{◌≡◌, ℕ, ◌<◌, ◌≤◌, nat_le, cond, Bool, true, false, List, [], ◌∷◌, Option, Some, None, sym, refl, ap, ◌∙◌, subst, ⊎_elim, arith}
-use Rattle.std.proofs.lemmas.Bool.{le-leb, lt-leb, leb-true}
-use Rattle.version_chain.specs.Versions.{Version, version_at, newest, cut, Falls}
-use Rattle.farm_node.specs.Cell.{Bytes, found_of, found_at, is_absent, is_gone}
-use Rattle.farm_node.specs.Story.{Installed, version_of, versions_of, stamped_bytes}
-use Rattle.a1_base.specs.Lists.{IsAmong}
-use Rattle.farm_node.proofs.Addresses.{and_left, and_right}
+use Rattle.farm_node.proofs.Common.{◌≡◌, ℕ, suc, ◌<◌, ◌≤◌, nat_le, cond, true, false, List, [], ◌∷◌, Option, Some, None, sym, refl, ap, ◌∙◌, subst, ⊎_elim}
+use Rattle.farm_node.proofs.Common.{arith, cond_both, cond-true, cond-false, and_parts, leb-true, le-leb, lt-leb, IsAmong, Version, version_at, newest, cut}
+use Rattle.farm_node.proofs.Common.{Falls, Bytes, found_of, found_at, is_absent, is_gone, Installed, version_of, versions_of, stamped_bytes}
 
 -- versions
 
 taken_at : (s : ℕ) (v : Version) (vs : List Version) → v.0 ≤ s → version_at s (v ∷ vs) ≡ Some v
-taken_at s v vs le = ap (λ (g : Bool). cond g (Some v) (version_at s vs)) (le-leb v.0 s le)
+taken_at s v vs le = cond-true (nat_le v.0 s) (Some v) (version_at s vs) (le-leb v.0 s le)
 
 pub passed_at : (s : ℕ) (v : Version) (vs : List Version) → s < v.0 → version_at s (v ∷ vs) ≡ version_at s vs
-passed_at s v vs lt = ap (λ (g : Bool). cond g (Some v) (version_at s vs)) (lt-leb v.0 s lt)
+passed_at s v vs lt = cond-false (nat_le v.0 s) (Some v) (version_at s vs) (lt-leb v.0 s lt)
 
 -- a cut keeps what stands at each stamp from the floor on
 pub cut_at : (floor s : ℕ) (vs : List Version) → floor ≤ s → version_at s (cut floor vs) ≡ version_at s vs
 cut_at floor s [] le = refl
-cut_at floor s (v ∷ vs) le = by (nat_le v.0 floor) refl (cut_at floor s vs le) where
-  by : (g : Bool) → nat_le v.0 floor ≡ g → version_at s (cut floor vs) ≡ version_at s vs → version_at s (cond g (v ∷ []) (v ∷ cut floor vs)) ≡ version_at s (v ∷ vs)
-  by true is rest =
-      let low : v.0 ≤ floor = leb-true v.0 floor is in
-      let here : v.0 ≤ s = omega arith in
-      taken_at s v [] here ∙ sym (taken_at s v vs here)
-  by false is rest = ap (λ (x : Option Version). cond (nat_le v.0 s) (Some v) x) rest
+cut_at floor s (v ∷ vs) le = cond_both (nat_le v.0 floor) _ _ (λ l. version_at s l ≡ version_at s (v ∷ vs))
+    (λ is. let low : v.0 ≤ floor = leb-true v.0 floor is in let here : v.0 ≤ s = omega arith in taken_at s v [] here ∙ sym (taken_at s v vs here))
+    (λ is. ap (λ (x : Option Version). cond (nat_le v.0 s) (Some v) x) (cut_at floor s vs le))
 
+-- and the newest version
 pub newest_cut : (floor : ℕ) (vs : List Version) → newest (cut floor vs) ≡ newest vs
 newest_cut floor [] = refl
 newest_cut floor (v ∷ vs) = elim (nat_le v.0 floor) as (λ g. newest (cond g (v ∷ []) (v ∷ cut floor vs)) ≡ v.0) [ true ↦ refl | false ↦ refl ]
@@ -34,9 +27,9 @@ newest_cut floor (v ∷ vs) = elim (nat_le v.0 floor) as (λ g. newest (cond g (
 pub gone_at : (floor s : ℕ) (vs : List Version) → floor ≤ s → is_gone floor vs ≡ true → (stamped_bytes (found_at s vs) ≡ None) × (newest vs ≤ floor)
 gone_at floor s [] le gone = cc
 gone_at floor s (v ∷ vs) le gone =
-    let low : v.0 ≤ floor = leb-true v.0 floor (and_left _ _ gone) in
+    let low : v.0 ≤ floor = leb-true v.0 floor (and_parts _ _ gone).0 in
     let here : v.0 ≤ s = omega arith in
-    (ap (λ (x : Option Version). stamped_bytes (found_of x)) (taken_at s v vs here) ∙ absent v.0 v.1 (and_right _ _ gone), low) where
+    (ap (λ (x : Option Version). stamped_bytes (found_of x)) (taken_at s v vs here) ∙ absent v.0 v.1 (and_parts _ _ gone).1, low) where
       absent : (n : ℕ) (x : Option Bytes) → is_absent x ≡ true → stamped_bytes (found_of (Some (n, x))) ≡ None
       absent n None e = refl
       absent n (Some y) e = cc
@@ -72,21 +65,15 @@ falls_below : (n : ℕ) (puts : List Installed) (i : Installed) → newest (vers
 falls_below n [] i low falls there = absurd there
 falls_below n (j ∷ js) i low falls there = ⊎_elim
     (λ (is : j ≡ i). let e : j.stamp ≡ i.stamp = ap (λ (z : Installed). z.stamp) is in let l : j.stamp < n = low in omega arith)
-    (λ more. let l : j.stamp < n = low in falls_below n js i (let x : newest (versions_of js) < j.stamp = falls.0 in omega arith) falls.1 more)
-    there
+    (λ more. let l : j.stamp < n = low in falls_below n js i (let x : newest (versions_of js) < j.stamp = falls.0 in omega arith) falls.1 more) there
 
 -- from its read stamp to its own stamp a put has the value at its read stamp before it
 pub decided_at : (puts : List Installed) (i : Installed) (s : ℕ) → Falls (versions_of puts) → Decided puts → IsAmong i puts → i.read ≤ s → s < i.stamp
     → version_at s (versions_of puts) ≡ version_at i.read (versions_of puts)
 decided_at [] i s falls decided there low high = absurd there
 decided_at (j ∷ js) i s falls decided there low high =
-    let above : i.stamp ≤ j.stamp = ⊎_elim
-    (λ (is : j ≡ i). let e : j.stamp ≡ i.stamp = ap (λ (z : Installed). z.stamp) is in (let r : i.stamp ≤ j.stamp = omega arith in r))
-    (λ more. let x : i.stamp < j.stamp = falls_below j.stamp js i falls.0 falls.1 more in (let r : i.stamp ≤ j.stamp = omega arith in r))
-    there in
+    let above : i.stamp < suc j.stamp = falls_below (suc j.stamp) (j ∷ js) i (omega arith) falls there in
     passed_at s (version_of j) (versions_of js) (omega arith)
-    ∙ (⊎_elim
-    (λ (is : j ≡ i). steady i.read s js (subst (λ (z : Installed). BelowAll z.read js) is decided.0) low)
-    (λ more. decided_at js i s falls.1 decided.1 more low high)
-    there
+    ∙ (⊎_elim (λ (is : j ≡ i). steady i.read s js (subst (λ (z : Installed). BelowAll z.read js) is decided.0) low)
+    (λ more. decided_at js i s falls.1 decided.1 more low high) there
     ∙ sym (passed_at i.read (version_of j) (versions_of js) (omega arith)))

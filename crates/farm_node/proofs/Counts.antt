@@ -1,14 +1,7 @@
 -- How many objects and versions a map has.
-use Rattle.std.proofs.Common.{◌≡◌, ℕ, ◌+◌, ◌-◌, ◌^◌, ◌<◌, min, List, [], ◌∷◌, length, Option, Some, refl, ap, ◌∙◌, arith}
-use Rattle.std.specs.Map.{values_of}
-use Rattle.std.specs.BTreeMap.{BTreeMap, IsOrdered, btree_map_len, values}
-use Rattle.a1_base.specs.declared.place.Addr.{Addr}
-use Rattle.object_region.specs.Occupancy.{addr_order, Rises}
-use Rattle.farm_node.specs.Cell.{Cell, objects_in, versions_in}
-use Rattle.farm_node.specs.NodeState.{NodeState, places, total, counted, object_count, version_count}
-use Rattle.farm_node.specs.State.{cells_of}
-use Rattle.farm_node.proofs.Totals.{sum_of, total_entries}
-use Rattle.farm_node.proofs.Sweeping.{IsPlaced}
+use Rattle.farm_node.proofs.Common.{◌≡◌, ℕ, ◌+◌, ◌^◌, ◌<◌, List, [], ◌∷◌, length, Some, refl, ap, ◌∙◌, arith, BTreeMap, IsOrdered, btree_map_len, values}
+use Rattle.farm_node.proofs.Common.{values_of, Addr, IsAmong, width, Rises, addr_order, Cell, objects_in, versions_in, places, total, counted, cells_of}
+use Rattle.farm_node.proofs.Totals.{sum_of, total_listed}
 
 abbrev pub lengths : List Cell → ℕ
 lengths [] = 0
@@ -22,28 +15,13 @@ sum_ones : (es : List (Addr × Cell)) → sum_of (λ c. objects_in (Some c)) es 
 sum_ones [] = refl
 sum_ones (e ∷ es) = let rest : sum_of (λ c. objects_in (Some c)) es ≡ length es = sum_ones es in omega arith
 
-pub versions_are : (objects : BTreeMap Addr Cell) (p : NodeState) → p.cells ≡ cells_of objects → IsOrdered addr_order objects → Rises p.regions → IsPlaced p → version_count p ≡ lengths (values objects)
-versions_are objects p same ordered rises placed =
-    ap (λ (cells : Addr → Option Cell). total versions_in cells (places p.regions)) same
-    ∙ (total_entries versions_in objects p.regions refl ordered rises (λ a c is. placed a c (ap (λ (cells : Addr → Option Cell). cells a) same ∙ is)) ∙ sum_lengths objects.entries)
+module _ (objects : BTreeMap Addr Cell) (regions : List ℕ) (ordered : IsOrdered addr_order objects) (rises : Rises regions)
+    (placed : (a : Addr) (c : Cell) → cells_of objects a ≡ Some c → IsAmong a.region regions × (a.offset < width)) where
+  pub versions_are : total versions_in (cells_of objects) (places regions) ≡ lengths (values objects)
+  versions_are = total_listed versions_in regions refl rises objects.entries ordered placed ∙ sum_lengths objects.entries
 
-pub objects_are : (objects : BTreeMap Addr Cell) (p : NodeState) → p.cells ≡ cells_of objects → IsOrdered addr_order objects → Rises p.regions → IsPlaced p → object_count p ≡ btree_map_len objects
-objects_are objects p same ordered rises placed =
-    ap (λ (cells : Addr → Option Cell). total objects_in cells (places p.regions)) same
-    ∙ (total_entries objects_in objects p.regions refl ordered rises (λ a c is. placed a c (ap (λ (cells : Addr → Option Cell). cells a) same ∙ is)) ∙ sum_ones objects.entries)
-
--- nothing is counted where no region is made
-pub none_counted : (p : NodeState) → p.regions ≡ [] → (object_count p ≡ 0) × (version_count p ≡ 0)
-none_counted p none = (ap (λ (rs : List ℕ). total objects_in p.cells (places rs)) none, ap (λ (rs : List ℕ). total versions_in p.cells (places rs)) none)
-
-pub count_begins : (left : List Cell) (all : List Cell) → left ≡ all → counted (0 + lengths left) ≡ counted (lengths all)
-count_begins left all e = ap (λ (n : ℕ). counted n) (let z : 0 + lengths left ≡ lengths left = omega arith in z ∙ ap lengths e)
-
-pub count_more : (left rest : List Cell) (c : Cell) (count all n count' : ℕ) → left ≡ c ∷ rest → counted (count + lengths left) ≡ counted all → n ≡ length c.versions
-    → count' ≡ min (count + n) (2 ^ 64 - 1) → counted (count' + lengths rest) ≡ counted all
-count_more left rest c count all n count' front so is more =
-    let here : lengths left ≡ length c.versions + lengths rest = ap lengths front in
-    omega arith
+  pub objects_are : total objects_in (cells_of objects) (places regions) ≡ btree_map_len objects
+  objects_are = total_listed objects_in regions refl rises objects.entries ordered placed ∙ sum_ones objects.entries
 
 pub count_ends : (left : List Cell) (count all : ℕ) → left ≡ [] → counted (count + lengths left) ≡ counted all → count < 2 ^ 64 → count ≡ counted all
 count_ends left count all none so fits =

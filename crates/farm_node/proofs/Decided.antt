@@ -1,26 +1,16 @@
 -- What a transaction decides, no other changes between its two stamps.
-use Rattle.std.proofs.Common.{◌≡◌, ◌⊎◌, ℕ, ◌<◌, ◌≤◌, max, cond, Bool, true, false, List, [], ◌∷◌, ◌++◌, Option, Some, None, Ok, sym, refl, ap, ◌∙◌, subst, inl, inr, ⊎_elim, arith}
-use Rattle.a1_base.specs.declared.place.Addr.{Addr}
-use Rattle.a1_base.specs.declared.place.TxnId.{TxnId}
-use Rattle.object_region.specs.Occupancy.{same_addr}
-use Rattle.version_chain.specs.Versions.{version_at, newest}
-use Rattle.farm_node.specs.declared.hold.Hold.{Hold}
-use Rattle.farm_node.specs.declared.entry.Locked.{Locked}
-use Rattle.farm_node.specs.declared.entry.Placed.{Placed}
-use Rattle.farm_node.specs.declared.entry.Entry.{Entry}
-use Rattle.farm_node.specs.declared.entry.Entry.TheVariants.{Made, Alloc, Lock, Check, Put}
-use Rattle.farm_node.specs.Cell.{Bytes, Cell, made_by, locked_by, is_open, is_gone}
-use Rattle.farm_node.specs.NodeState.{NodeState, set_cell, PinnedBy, FitsLock, FitsCheck, Fits, looked_at, after, LawfulFrom, Lawful, replay}
-use Rattle.farm_node.specs.Story.{Story, with_put, story_after, story_from, story_begun, story, versions_of}
-use Rattle.farm_node.specs.Laws.{versions_there, Spares, PutsAt, KeepsLock, Decides, MineDecides}
-use Rattle.std.specs.List.{AllByRecursion}
-use Rattle.farm_node.proofs.Addresses.{and_left, same_self}
+use Rattle.farm_node.proofs.Common.{◌≡◌, ◌⊎◌, ℕ, ◌<◌, ◌≤◌, max, true, List, [], ◌∷◌, ◌++◌, Option, Some, None, Ok, sym, refl, ap, ◌∙◌, subst, inl, inr, ⊎_elim}
+use Rattle.farm_node.proofs.Common.{arith, cond-true, and_parts, AllByRecursion, Addr, TxnId, same_addr, version_at, newest, cut, Hold, Entry, Made, Alloc}
+use Rattle.farm_node.proofs.Common.{Lock, Check, Put, Cell, is_open, locked_by, is_gone, NodeState, PinnedBy, FitsLock, FitsCheck, Fits, looked_at, after}
+use Rattle.farm_node.proofs.Common.{LawfulFrom, replay, Lawful, Story, with_put, story_after, story_from, story_begun, story, versions_of, versions_there}
+use Rattle.farm_node.proofs.Common.{Spares, PutsAt, KeepsLock, Decides, MineDecides}
+use Rattle.farm_node.proofs.Addresses.{same_self, set_self}
 use Rattle.farm_node.proofs.Sound.{Sound, sound, pinned}
-use Rattle.farm_node.proofs.Steps.{Keeps, keeps, no_cell, check_open_at, Askable, askable, lock_low}
+use Rattle.farm_node.proofs.Steps.{Keeps, no_cell, check_open_at, Askable, askable, lock_low, keeps_each}
 use Rattle.farm_node.proofs.Chains.{BelowAll, below_more}
-use Rattle.farm_node.proofs.Stories.{WaitsLock, Waits, TellsAt, Stands, stands}
+use Rattle.farm_node.proofs.Stories.{WaitsLock, Waits, TellsAt, Stands, stands, each_unit}
 use Rattle.farm_node.proofs.Adds.{below_before}
-use Rattle.farm_node.proofs.ReadsStay.{set_self, Barred, Fixed, fixed, look_bars}
+use Rattle.farm_node.proofs.ReadsStay.{Barred, Fixed, fixed, look_bars}
 
 -- the transaction has the lock, or no put at w or below comes any more
 
@@ -38,55 +28,47 @@ Mine t a w e = PutsAt t w e × KeepsLock t a e
 record KeptBy (t : TxnId) (w : ℕ) (c : Option Cell) (past floor : ℕ) (h : Story) : Type 0 where
   kept : Keeping t w c past
 
-has_at : (t : TxnId) (l : Option Hold) (k : Hold) → l ≡ Some k → HasLock t l → k.by ≡ t
-has_at t l k is has = subst (λ (z : Option Hold). HasLock t z) is has
+-- who ends or renews the lock is who has it
+own_lock : (t u : TxnId) (l : Option Hold) (k : Hold) → l ≡ Some k → k.by ≡ u → HasLock t l → u ≡ t
+own_lock t u l k is own has = sym own ∙ subst (HasLock t) is has
+
+renews_lock : (t u : TxnId) (l : Option Hold) → (l ≡ None) ⊎ ((k : Hold) × (l ≡ Some k) × (k.by ≡ u)) → HasLock t l → u ≡ t
+renews_lock t u l free has = ⊎_elim (λ (none : l ≡ None). absurd (subst (HasLock t) none has)) (λ own. own_lock t u l own.0 own.1 own.2 has) free
 
 keeping_more : (t : TxnId) (w : ℕ) (c : Option Cell) (past past' : ℕ) → past ≤ past' → Keeping t w c past → Keeping t w c past'
 keeping_more t w None past past' le x = omega arith
 keeping_more t w (Some c) past past' le x = x
 
+keeping_barred : (t : TxnId) (w : ℕ) (c : Option Cell) (past : ℕ) → Barred w c past → Keeping t w c past
+keeping_barred t w None past bar = bar
+keeping_barred t w (Some c) past bar = inr bar
+
 open_has : (t : TxnId) (l : Option Hold) → is_open l ≡ true → HasLock t l → ⊥
 open_has t None e has = has
 open_has t (Some k) e has = cc
+
+-- what no lock bars any more, n does
+barred_by : (t : TxnId) (w n : ℕ) (c : Cell) → (HasLock t c.lock → w ≤ n) → c.bound ≤ n → HasLock t c.lock ⊎ (w ≤ c.bound) → w ≤ n
+barred_by t w n c has le kept = ⊎_elim has (λ (low : w ≤ c.bound). let r : w ≤ n = omega arith in r) kept
 
 kept_by : (a : Addr) (t : TxnId) (w : ℕ) → Keeps a (Mine t a w) (KeptBy t w)
 kept_by a t w = record {
   aside = λ c past past' floor h le x. record { kept = keeping_more t w c past past' le x.kept };
   looked = λ c s past floor h free x. record { kept = ⊎_elim (λ has. inl has) (λ (le : w ≤ c.bound). inr (omega arith)) x.kept };
   made = λ u r v placed past floor h making x. record { kept = inr (let le : w ≤ past = x.kept in omega arith) };
-  locked = λ u b r new given c past floor h locking x. record {
-    kept = ⊎_elim
-        (λ has. ⊎_elim
-        (λ (free : c.lock ≡ None). absurd (subst (λ (z : Option Hold). HasLock t z) free has))
-        (λ own. inl (sym own.2 ∙ has_at t c.lock own.0 own.1 has))
-        locking.free)
-        (λ (le : w ≤ c.bound). inr le)
-        x.kept;
-  };
+  locked = λ u b r new given c past floor h locking x. record { kept = ⊎_elim (λ has. inl (renews_lock t u c.lock locking.free has)) (λ (le : w ≤ c.bound). inr le) x.kept };
   put = λ u b x c past floor h ending above y. record {
-    kept = ⊎_elim
-        (λ has. let at_w : x ≡ w = ending.fits.0 (sym ending.own ∙ has_at t c.lock ending.hold ending.lock has) in inr (omega arith))
-        (λ (le : w ≤ c.bound). inr (omega arith))
-        y.kept;
+    kept = inr (barred_by t w x c (λ has. let at_w : x ≡ w = ending.fits.0 (own_lock t u c.lock ending.hold ending.lock ending.own has) in omega arith) (omega arith) y.kept);
   };
   unlocked = λ u b c past floor h ending y. record {
-    kept = ⊎_elim
-        (λ has. absurd (ending.fits.1 (sym ending.own ∙ has_at t c.lock ending.hold ending.lock has) ending.here))
-        (λ (le : w ≤ c.bound). inr le)
-        y.kept;
+    kept = inr (barred_by t w c.bound c (λ has. absurd (ending.fits.1 (own_lock t u c.lock ending.hold ending.lock ending.own has) ending.here)) (omega arith) y.kept);
   };
   back = λ u b c past floor h ending none y. record {
-    kept = ⊎_elim
-        (λ has. absurd (ending.fits.1 (sym ending.own ∙ has_at t c.lock ending.hold ending.lock has) ending.here))
-        (λ (le : w ≤ c.bound). let r : w ≤ max past c.bound = omega arith in r)
-        y.kept;
+    kept = barred_by t w (max past c.bound) c (λ has. absurd (ending.fits.1 (own_lock t u c.lock ending.hold ending.lock ending.own has) ending.here)) (omega arith) y.kept;
   };
   cut = λ c past past' floor floor' h le more y. record { kept = y.kept };
   went = λ c past past' floor floor' h le more gone high y. record {
-    kept = ⊎_elim
-        (λ has. absurd (open_has t c.lock (and_left (is_open c.lock) (is_gone floor' c.versions) gone) has))
-        (λ (l : w ≤ c.bound). let r : w ≤ past' = omega arith in r)
-        y.kept;
+    kept = barred_by t w past' c (λ has. absurd (open_has t c.lock (and_parts (is_open c.lock) (is_gone floor' c.versions) gone).0 has)) high y.kept;
   };
   none = λ past past' floor floor' h le more y. record { kept = let l : w ≤ past = y.kept in omega arith };
 }
@@ -94,49 +76,34 @@ kept_by a t w = record {
 module _ (t : TxnId) (a : Addr) (r w : ℕ) where
   -- what comes behind
 
+  each_both : (es : List Entry) → AllByRecursion (PutsAt t w) es → AllByRecursion (KeepsLock t a) es → AllByRecursion (Mine t a w) es
+  each_both [] puts keep = tt
+  each_both (e ∷ es) puts keep = ((puts.0, keep.0), each_both es puts.1 keep.1)
+
   kept_spares : (p : NodeState) (e : Entry) → Fits p e → Keeping t w (p.cells a) p.past → Spares t a r w e
   kept_spares p (Put u b x) fits kept = λ is other above le.
       let put = fits.0 in
-      let there : p.cells a ≡ Some put.0 = ap p.cells (sym is) ∙ put.2 in
       let over : put.0.bound < x = put.5 in
-      ⊎_elim
-      (λ has. other (sym put.4 ∙ has_at t put.0.lock put.1 put.3 has))
-      (λ (low : w ≤ put.0.bound). absurd (omega arith))
-      (subst (λ (c : Option Cell). Keeping t w c p.past) there kept)
+      ⊎_elim (λ has. other (own_lock t u put.0.lock put.1 put.3 put.4 has)) (λ (low : w ≤ put.0.bound). absurd (omega arith))
+      (subst (λ (c : Option Cell). Keeping t w c p.past) (ap p.cells (sym is) ∙ put.2) kept)
   kept_spares p e fits kept = tt
 
   spared_kept : (p : NodeState) (h : Story) (es : List Entry) → Sound p → LawfulFrom p es → AllByRecursion (PutsAt t w) es → AllByRecursion (KeepsLock t a) es
-      → KeptBy t w (p.cells a) p.past p.floor h → AllByRecursion (Spares t a r w) es
-  spared_kept p h [] s lawful puts keep k = tt
-  spared_kept p h (e ∷ es) s lawful puts keep k = (
-    kept_spares p e lawful.0 k.kept,
-    spared_kept (after p e) (story_after a h e) es (sound p e lawful.0 s) lawful.1 puts.1 keep.1
-        (keeps a (Mine t a w) (KeptBy t w) (kept_by a t w) p h e s lawful.0 (puts.0, keep.0) k),
-  )
-
-  barred_spares : (p : NodeState) (e : Entry) → Fits p e → Barred w (p.cells a) p.past → Spares t a r w e
-  barred_spares p (Put u b x) fits bar = λ is other above le.
-      let put = fits.0 in
-      let low : w ≤ put.0.bound = subst (λ (c : Option Cell). Barred w c p.past) (ap p.cells (sym is) ∙ put.2) bar in
-      let over : put.0.bound < x = put.5 in
-      omega arith
-  barred_spares p e fits bar = tt
+      → Keeping t w (p.cells a) p.past → AllByRecursion (Spares t a r w) es
+  spared_kept p h es s lawful puts keep kept =
+      keeps_each a (Mine t a w) (KeptBy t w) (kept_by a t w) (Spares t a r w) (λ p h e fits x. kept_spares p e fits x.kept) p h es s lawful (each_both es puts keep) record { kept = kept }
 
   spared_barred : (p : NodeState) (h : Story) (es : List Entry) → Sound p → LawfulFrom p es → Barred w (p.cells a) p.past → AllByRecursion (Spares t a r w) es
-  spared_barred p h [] s lawful bar = tt
-  spared_barred p h (e ∷ es) s lawful bar = (
-    barred_spares p e lawful.0 bar,
-    spared_barred (after p e) (story_after a h e) es (sound p e lawful.0 s) lawful.1
-        (keeps a (λ e. Unit {0}) (Fixed w (version_at w (versions_of h.puts))) (fixed a w (version_at w (versions_of h.puts))) p h e s lawful.0 tt record { barred = bar; still = refl }).barred,
-  )
+  spared_barred p h es s lawful bar =
+      keeps_each a (λ e. Unit {0}) (Fixed w (version_at w (versions_of h.puts))) (fixed a w (version_at w (versions_of h.puts))) (Spares t a r w)
+      (λ p h e fits x. kept_spares p e fits (keeping_barred t w (p.cells a) p.past x.barred)) p h es s lawful (each_unit es) record { barred = bar; still = refl }
 
   -- what came before: no put above r
 
   low_spares : (h : Story) (e : Entry) → BelowAll r (story_after a h e).puts → Spares t a r w e
-  low_spares h (Put u b x) low = λ is other above le. by (same_addr b a) (ap (λ (z : Addr). same_addr z a) is ∙ same_self a) low above where
-    by : (g : Bool) → g ≡ true → BelowAll r (cond g (with_put u x h) h).puts → r < x → ⊥
-    by true is low above = let l : x ≤ r = low.0 in omega arith
-    by false is low above = cc
+  low_spares h (Put u b x) low = λ is other above le.
+      let l : BelowAll r (with_put u x h).puts = subst (λ (s : Story). BelowAll r s.puts) (cond-true (same_addr b a) _ h (ap (λ (z : Addr). same_addr z a) is ∙ same_self a)) low in
+      let low : x ≤ r = l.0 in omega arith
   low_spares h e low = tt
 
   spared_low : (h : Story) (es : List Entry) → BelowAll r (story_from a h es).puts → AllByRecursion (Spares t a r w) es
@@ -160,7 +127,7 @@ each_rest P (x ∷ xs) y ys t = each_rest P xs y ys t.1
 pub low_puts : (a : Addr) (p : NodeState) (h : Story) (k r : ℕ) → Sound p → TellsAt a p h → PinnedBy p k r → newest (versions_there (p.cells a)) ≤ r → BelowAll r h.puts
 low_puts a p h k r s t pin low =
     let f : p.floor ≤ r = (pinned p k r s pin).1 in
-    below_more (max p.floor (newest (versions_there (p.cells a)))) r h.puts (omega arith) t.top
+    below_more (max p.floor (newest (versions_there (p.cells a)))) r h.puts (omega arith) t.shows.top
 
 pub check_low : (r : ℕ) (c : Option Cell) → ((d : Cell) → c ≡ Some d → (d.lock ≡ None) × (newest d.versions ≤ r)) → newest (versions_there c) ≤ r
 check_low r None is_open = omega arith
@@ -176,77 +143,58 @@ own before rest t a w lawful =
     let here : WaitsLock (Some put.1) (story a before) = subst (λ (l : Option Hold). WaitsLock l (story a before)) put.3 waits in
     (put.0, put.1, put.2, put.3, put.4, here.0 ∙ ap (λ (u : TxnId). ((story a before).given u).value) put.4)
 
--- the law by each of the three entries
+-- the law by each of the three entries, in the entry's own names
 
-module _ (before rest : List Entry) (a : Addr) (r w : ℕ) where
-  by_alloc : (u : TxnId) (v : Bytes) (placed : Placed) → placed.at ≡ a → Lawful (before ++ Alloc u r v placed ∷ rest) → AllByRecursion (PutsAt u w) rest → AllByRecursion (KeepsLock u a) rest
-      → AllByRecursion (Spares u a r w) (before ++ Alloc u r v placed ∷ rest)
-  by_alloc u v placed is lawful puts keep =
-      let e : Entry = Alloc u r v placed in
-      let x : Stands a before (e ∷ rest) = stands a before e rest tt lawful in
-      let p : NodeState = replay before in
-      let h : Story = story a before in
-      let fits = x.lawful.0 in
-      let none : p.cells a ≡ None = ap p.cells (sym is) ∙ no_cell (p.cells placed.at) fits.2.free in
-      let low : newest (versions_there (p.cells a)) ≤ r = subst (λ (c : Option Cell). newest (versions_there c) ≤ r) (sym none) (omega arith) in
-      let new : Option Cell = Some (made_by u v placed.bound) in
-      let has : Keeping u w (set_cell placed.at new p.cells a) p.past =
-      subst (λ (c : Option Cell). Keeping u w c p.past) (sym (ap (λ (z : Addr). set_cell z new p.cells a) is ∙ set_self a new p.cells)) (inl refl) in
-      each_append (Spares u a r w) before (e ∷ rest)
-      (spared_before u a r w before x.begins (low_puts a p h u.actor r x.sound x.tells fits.0 low))
-      (tt, spared_kept u a r w (after p e) h rest (sound p e fits x.sound) x.lawful.1 puts keep record { kept = has })
+abbrev Spared : List Entry → Entry → List Entry → TxnId → Addr → ℕ → ℕ → Type 0
+Spared before e rest t a r w = AllByRecursion (PutsAt t w) rest → AllByRecursion (KeepsLock t a) rest → AllByRecursion (Spares t a r w) (before ++ e ∷ rest)
 
-  by_lock : (u : TxnId) (new : Option Bytes) (given : Locked) → Lawful (before ++ Lock u a r new (Ok given) ∷ rest) → AllByRecursion (PutsAt u w) rest → AllByRecursion (KeepsLock u a) rest
-      → AllByRecursion (Spares u a r w) (before ++ Lock u a r new (Ok given) ∷ rest)
-  by_lock u new given lawful puts keep =
-      let e : Entry = Lock u a r new (Ok given) in
-      let x : Stands a before (e ∷ rest) = stands a before e rest tt lawful in
-      let p : NodeState = replay before in
-      let h : Story = story a before in
-      let fits : FitsLock p u a r (Ok given) = x.lawful.0 in
-      let ask : Askable u (p.cells a) = askable p u a r (Ok given) fits in
-      let low : newest (versions_there (p.cells a)) ≤ r = subst (λ (c : Option Cell). newest (versions_there c) ≤ r) (sym ask.is) (lock_low p u a r given fits) in
-      let has : Keeping u w (set_cell a (locked_by u new (p.cells a)) p.cells a) p.past =
-      subst (λ (c : Option Cell). Keeping u w c p.past) (sym (set_self a (locked_by u new (p.cells a)) p.cells))
-      (subst (λ (c : Option Cell). Keeping u w (locked_by u new c) p.past) (sym ask.is) (inl refl)) in
-      each_append (Spares u a r w) before (e ∷ rest)
-      (spared_before u a r w before x.begins (low_puts a p h u.actor r x.sound x.tells fits.pinned low))
-      (tt, spared_kept u a r w (after p e) h rest (sound p e fits x.sound) x.lawful.1 puts keep record { kept = has })
+module _ (before rest : List Entry) (r w : ℕ) where
+  around : (e : Entry) (u : TxnId) (a : Addr) → Stands a before (e ∷ rest) → PinnedBy (replay before) u.actor r → newest (versions_there ((replay before).cells a)) ≤ r
+      → Spares u a r w e → AllByRecursion (Spares u a r w) rest → AllByRecursion (Spares u a r w) (before ++ e ∷ rest)
+  around e u a x pin low here behind = each_append (Spares u a r w) before (e ∷ rest)
+      (spared_before u a r w before x.begins (low_puts a (replay before) (story a before) u.actor r x.sound x.tells pin low)) (here, behind)
 
-  by_check : (u : TxnId) → Lawful (before ++ Check u a r w (Ok tt) ∷ rest) → AllByRecursion (Spares u a r w) (before ++ Check u a r w (Ok tt) ∷ rest)
-  by_check u lawful =
+  -- the entry gave the lock
+  by_lock : (e : Entry) (u : TxnId) (a : Addr) (c : Option Cell) → Stands a before (e ∷ rest) → PinnedBy (replay before) u.actor r → newest (versions_there ((replay before).cells a)) ≤ r
+      → Spares u a r w e → (after (replay before) e).cells a ≡ c → Keeping u w c (after (replay before) e).past → Spared before e rest u a r w
+  by_lock e u a c x pin low here is kept puts keep = around e u a x pin low here
+      (spared_kept u a r w (after (replay before) e) (story a before) rest (sound (replay before) e x.lawful.0 x.sound) x.lawful.1 puts keep
+      (subst (λ (c : Option Cell). Keeping u w c (after (replay before) e).past) (sym is) kept))
+
+  by_check : (u : TxnId) (a : Addr) → Lawful (before ++ Check u a r w (Ok tt) ∷ rest) → AllByRecursion (Spares u a r w) (before ++ Check u a r w (Ok tt) ∷ rest)
+  by_check u a lawful =
       let e : Entry = Check u a r w (Ok tt) in
       let x : Stands a before (e ∷ rest) = stands a before e rest tt lawful in
       let p : NodeState = replay before in
-      let h : Story = story a before in
       let fits : FitsCheck p u a r w (Ok tt) = x.lawful.0 in
-      each_append (Spares u a r w) before (e ∷ rest)
-      (spared_before u a r w before x.begins (low_puts a p h u.actor r x.sound x.tells fits.pinned (check_low r (p.cells a) (check_open_at r (p.cells a) fits.due))))
-      (tt, spared_barred u a r w (looked_at a w p) h rest (sound p e fits x.sound) x.lawful.1 (look_bars a w p))
+      around e u a x fits.pinned (check_low r (p.cells a) (check_open_at r (p.cells a) fits.due)) tt
+      (spared_barred u a r w (looked_at a w p) (story a before) rest (sound p e fits x.sound) x.lawful.1 (look_bars a w p))
 
--- the entries' own names for t, a, r and w
+renamed : (P : TxnId → Addr → ℕ → ℕ → Type 0) {t u : TxnId} {a b : Addr} {r q : ℕ} (w x : ℕ) → u ≡ t → b ≡ a → q ≡ r → x ≡ w → P u b q x → P t a r w
+renamed P w x e e' e'' e3 = subst (λ (z : TxnId × Addr × ℕ × ℕ). P z.0 z.1 z.2 z.3) (λ i. (e i, e' i, e'' i, e3 i))
+
 spared : (before rest : List Entry) (e : Entry) (t : TxnId) (a : Addr) (r w : ℕ)
     → Lawful (before ++ e ∷ rest) → AllByRecursion (PutsAt t w) (before ++ e ∷ rest) → Decides t a r w e rest → AllByRecursion (Spares t a r w) (before ++ e ∷ rest)
 spared before rest (Alloc u q v placed) t a r w lawful puts d =
-    moved u q d.0 d.2 lawful (each_rest (PutsAt t w) before (Alloc u q v placed) rest puts) d.3 where
-      moved : (u : TxnId) (q : ℕ) → u ≡ t → q ≡ r → Lawful (before ++ Alloc u q v placed ∷ rest) → AllByRecursion (PutsAt t w) rest → AllByRecursion (KeepsLock t a) rest
-          → AllByRecursion (Spares t a r w) (before ++ Alloc u q v placed ∷ rest)
-      moved u q e e' lawful puts keep =
-          subst (λ (z : TxnId × ℕ). AllByRecursion (Spares t a r w) (before ++ Alloc z.0 z.1 v placed ∷ rest)) (λ i. (sym e i, sym e' i))
-          (by_alloc before rest a r w t v placed d.1 (subst (λ (z : TxnId × ℕ). Lawful (before ++ Alloc z.0 z.1 v placed ∷ rest)) (λ i. (e i, e' i)) lawful) puts keep)
+    let e : Entry = Alloc u q v placed in
+    let x : Stands placed.at before (e ∷ rest) = stands placed.at before e rest tt lawful in
+    let p : NodeState = replay before in
+    let none : p.cells placed.at ≡ None = no_cell (p.cells placed.at) x.lawful.0.2.free in
+    renamed (Spared before e rest) w w d.0 d.1 d.2 refl
+    (by_lock before rest q w e u placed.at _ x x.lawful.0.0 (subst (λ (c : Option Cell). newest (versions_there c) ≤ q) (sym none) (omega arith)) tt (set_self placed.at _ p.cells) (inl refl))
+    (each_rest (PutsAt t w) before e rest puts) d.3
 spared before rest (Lock u b q new (Ok given)) t a r w lawful puts d =
-    moved u b q d.0 d.1 d.2 lawful (each_rest (PutsAt t w) before (Lock u b q new (Ok given)) rest puts) d.3 where
-      moved : (u : TxnId) (b : Addr) (q : ℕ) → u ≡ t → b ≡ a → q ≡ r → Lawful (before ++ Lock u b q new (Ok given) ∷ rest) → AllByRecursion (PutsAt t w) rest → AllByRecursion (KeepsLock t a) rest
-          → AllByRecursion (Spares t a r w) (before ++ Lock u b q new (Ok given) ∷ rest)
-      moved u b q e e' e'' lawful puts keep =
-          subst (λ (z : TxnId × Addr × ℕ). AllByRecursion (Spares t a r w) (before ++ Lock z.0 z.1 z.2 new (Ok given) ∷ rest)) (λ i. (sym e i, sym e' i, sym e'' i))
-          (by_lock before rest a r w t new given (subst (λ (z : TxnId × Addr × ℕ). Lawful (before ++ Lock z.0 z.1 z.2 new (Ok given) ∷ rest)) (λ i. (e i, e' i, e'' i)) lawful) puts keep)
-spared before rest (Check u b q x (Ok same)) t a r w lawful puts d = moved u b q x d.0 d.1 d.2 d.3 lawful where
-  moved : (u : TxnId) (b : Addr) (q x : ℕ) → u ≡ t → b ≡ a → q ≡ r → x ≡ w → Lawful (before ++ Check u b q x (Ok tt) ∷ rest)
-      → AllByRecursion (Spares t a r w) (before ++ Check u b q x (Ok tt) ∷ rest)
-  moved u b q x e e' e'' e3 lawful =
-      subst (λ (z : TxnId × Addr × ℕ × ℕ). AllByRecursion (Spares t a r w) (before ++ Check z.0 z.1 z.2 z.3 (Ok tt) ∷ rest)) (λ i. (sym e i, sym e' i, sym e'' i, sym e3 i))
-      (by_check before rest a r w t (subst (λ (z : TxnId × Addr × ℕ × ℕ). Lawful (before ++ Check z.0 z.1 z.2 z.3 (Ok tt) ∷ rest)) (λ i. (e i, e' i, e'' i, e3 i)) lawful))
+    let e : Entry = Lock u b q new (Ok given) in
+    let x : Stands b before (e ∷ rest) = stands b before e rest tt lawful in
+    let p : NodeState = replay before in
+    let fits : FitsLock p u b q (Ok given) = x.lawful.0 in
+    let ask : Askable u (p.cells b) = askable p u b q (Ok given) fits in
+    renamed (Spared before e rest) w w d.0 d.1 d.2 refl
+    (by_lock before rest q w e u b (locked_by u new (Some ask.cell)) x fits.pinned (subst (λ (c : Option Cell). newest (versions_there c) ≤ q) (sym ask.is) (lock_low p u b q given fits)) tt
+    (set_self b (locked_by u new (p.cells b)) p.cells ∙ ap (locked_by u new) ask.is) (inl refl))
+    (each_rest (PutsAt t w) before e rest puts) d.3
+spared before rest (Check u b q x (Ok same)) t a r w lawful puts d =
+    renamed (λ t a r w. AllByRecursion (Spares t a r w) (before ++ Check u b q x (Ok tt) ∷ rest)) w x d.0 d.1 d.2 d.3 (by_check before rest q x u b lawful)
 spared before rest e t a r w lawful puts d = absurd d
 
 pub decides : MineDecides

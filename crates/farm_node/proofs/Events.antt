@@ -1,20 +1,12 @@
 -- Events on one cell, as entries of the node.
-use Rattle.std.proofs.Common.{◌≡◌, ℕ, max, List, Option, Some, None, Result, Ok, Err, OnOk, OnErr, ap, ◌∙◌}
-use Rattle.std.specs.BTreeMap.{BTreeMap}
-use Rattle.a1_base.specs.declared.place.Addr.{Addr}
-use Rattle.a1_base.specs.declared.place.TxnId.{TxnId}
-use Rattle.object_region.specs.Occupancy.{Occupancy}
-use Rattle.farm_node.specs.declared.entry.Found.{Found}
-use Rattle.farm_node.specs.declared.entry.CheckFault.{CheckFault}
-use Rattle.farm_node.specs.declared.entry.Entry.TheVariants.{Check}
+use Rattle.farm_node.proofs.Common.{◌≡◌, ℕ, max, Option, Some, None, Result, Ok, Err, OnOk, OnErr, sym, ap, ◌∙◌, Memory, Addr, TxnId, IsStamp, Found}
+use Rattle.farm_node.proofs.Common.{CheckFault, Check, Cell, read_answer, raised_to, past_raised, check_answer, is_settled, NodeState, set_cell, PinnedBy}
+use Rattle.farm_node.proofs.Common.{HeldBy, looked_at, after, Adds}
 use Rattle.farm_node.specs.declared.faults.ReadFault.{ReadFault}
 use Rattle.farm_node.specs.declared.faults.ReadFault.TheVariants.{Held as ReadHeld, Memory as NoReadMemory}
-use Rattle.farm_node.specs.Cell.{Cell, read_answer, check_answer, is_settled}
-use Rattle.farm_node.specs.NodeState.{NodeState, PinnedBy, HeldBy, Adds, set_cell}
-use Rattle.a1_base.specs.Stamps.{IsStamp}
 use Rattle.farm_node.specs.Answers.{read_entry, ReadsCell, AddsIfMade}
-use Rattle.farm_node.specs.State.{cells_of, plain_from}
-use Rattle.farm_node.proofs.CellMaps.{looked_there, looked_nowhere, cells_same}
+use Rattle.farm_node.proofs.CellMaps.{cells_same, unset}
+use Rattle.farm_node.proofs.Sound.{pinned}
 
 pub reads_settled : (s : ℕ) (c w : Cell) (result : Result Found ReadFault) → ReadsCell s c result w → is_settled w ≡ is_settled c
 reads_settled s c w (Ok found) reads = ap is_settled reads.1
@@ -25,42 +17,42 @@ pub check_settled : (v : ℕ) (c w : Cell) (result : Result (Unit {0}) CheckFaul
 check_settled v c w (Ok u) same other = ap is_settled same
 check_settled v c w (Err f) same other = ap is_settled other
 
-module _ (objects later : BTreeMap Addr Cell) (places : Occupancy) (pins : List (Option ℕ)) (past floor actors : ℕ) (a : Addr) where
-  abbrev old : NodeState
-  old = plain_from objects places pins past floor actors
-
+module _ (p : NodeState) (cells : Addr → Option Cell) (a : Addr) where
   abbrev new : NodeState
-  new = plain_from later places pins past floor actors
+  new = record p { cells = cells }
 
-  pub read_there : (k s : ℕ) (c w : Cell) (result : Result Found ReadFault) → Some c ≡ cells_of objects a → cells_of later ≡ set_cell a (Some w) (cells_of objects)
-      → ReadsCell s c result w → PinnedBy old k s → IsStamp s → AddsIfMade old (read_entry k a s result) new
-  read_there k s c w (Ok found) there e reads pinned stamp = record {
-    fits = (pinned, stamp, reads.0 ∙ ap (read_answer s) there);
-    state = looked_there objects later places pins past floor actors a s c w there e reads.1;
-  }
-  read_there k s c w (Err (ReadHeld by)) there e reads pinned stamp = record {
-    fits = (pinned, stamp, reads.0 ∙ ap (read_answer s) there);
-    state = λ i. record old { cells = cells_same objects later a c w there e reads.1 i };
-  }
-  read_there k s c w (Err NoReadMemory) there e same pinned stamp = λ i. record old { cells = cells_same objects later a c w there e same i }
+  -- what a read or a check leaves, where an object is there
+  looked_there : (s : ℕ) (c w : Cell) → Some c ≡ p.cells a → cells ≡ set_cell a (Some w) p.cells → w ≡ record c { bound = max c.bound s } → new ≡ looked_at a s p
+  looked_there s c w there e is = (λ i. record p { cells = e i }) ∙ ((λ i. record p { cells = set_cell a (Some (is i)) p.cells })
+      ∙ (λ i. record p { cells = set_cell a (raised_to s (there i)) p.cells; past = past_raised s (there i) p.past }))
 
-  pub check_there : (t : TxnId) (r v : ℕ) (c w : Cell) (result : Result (Unit {0}) CheckFault) → Some c ≡ cells_of objects a → cells_of later ≡ set_cell a (Some w) (cells_of objects)
+  unchanged : (c w : Cell) → Some c ≡ p.cells a → cells ≡ set_cell a (Some w) p.cells → w ≡ c → new ≡ p
+  unchanged c w there e is = λ i. record p { cells = cells_same p.cells cells a c w there e is i }
+
+  pub read_there : (k s : ℕ) (c w : Cell) (result : Result Found ReadFault) → Some c ≡ p.cells a → cells ≡ set_cell a (Some w) p.cells
+      → ReadsCell s c result w → PinnedBy p k s → IsStamp s → AddsIfMade p (read_entry k a s result) new
+  read_there k s c w (Ok found) there e reads pinned stamp = record { fits = (pinned, stamp, reads.0 ∙ ap (read_answer s) there); state = looked_there s c w there e reads.1 }
+  read_there k s c w (Err (ReadHeld by)) there e reads pinned stamp = record { fits = (pinned, stamp, reads.0 ∙ ap (read_answer s) there); state = unchanged c w there e reads.1 }
+  read_there k s c w (Err NoReadMemory) there e same pinned stamp = unchanged c w there e same
+
+  pub check_there : (t : TxnId) (r v : ℕ) (c w : Cell) (result : Result (Unit {0}) CheckFault) → Some c ≡ p.cells a → cells ≡ set_cell a (Some w) p.cells
       → result ≡ check_answer r (Some c) → OnOk result (w ≡ record c { bound = max c.bound v }) → OnErr result (w ≡ c)
-      → PinnedBy old t.actor r → IsStamp r × IsStamp v → (HeldBy old t a → ⊥) → Adds old (Check t a r v result) new
-  check_there t r v c w (Ok u) there e due same other pinned stamps not_own = record {
-    fits = record { pinned = pinned; stamps = stamps; not_own = not_own; due = due ∙ ap (check_answer r) there };
-    state = looked_there objects later places pins past floor actors a v c w there e same;
-  }
-  check_there t r v c w (Err f) there e due same other pinned stamps not_own = record {
-    fits = record { pinned = pinned; stamps = stamps; not_own = not_own; due = due ∙ ap (check_answer r) there };
-    state = λ i. record old { cells = cells_same objects later a c w there e other i };
-  }
+      → PinnedBy p t.actor r → IsStamp r × IsStamp v → (HeldBy p t a → ⊥) → Adds p (Check t a r v result) new
+  check_there t r v c w result there e due same other pinned stamps not_own =
+      record { fits = record { pinned = pinned; stamps = stamps; not_own = not_own; due = due ∙ ap (check_answer r) there }; state = by result same other } where
+        by : (result : Result (Unit {0}) CheckFault) → OnOk result (w ≡ record c { bound = max c.bound v }) → OnErr result (w ≡ c) → new ≡ after p (Check t a r v result)
+        by (Ok u) same other = looked_there v c w there e same
+        by (Err f) same other = unchanged c w there e other
 
-pub check_nowhere : (objects later : BTreeMap Addr Cell) (places : Occupancy) (pins : List (Option ℕ)) (past risen floor actors : ℕ) (a : Addr) (t : TxnId) (r v : ℕ) → None ≡ cells_of objects a
-    → later ≡ objects → risen ≡ max past v
-    → PinnedBy (plain_from objects places pins past floor actors) t.actor r → IsStamp r × IsStamp v → (HeldBy (plain_from objects places pins past floor actors) t a → ⊥)
-    → Adds (plain_from objects places pins past floor actors) (Check t a r v (Ok tt)) (plain_from later places pins risen floor actors)
-check_nowhere objects later places pins past risen floor actors a t r v none same rose pinned stamps not_own = record {
+  pub hold_refused : (c w : Cell) (result : Result (Unit {0}) Memory) → Some c ≡ p.cells a → cells ≡ set_cell a (Some w) p.cells → OnErr result (w ≡ c) → OnErr result (new ≡ p)
+  hold_refused c w (Ok u) there e err = tt
+  hold_refused c w (Err m) there e err = unchanged c w there e err
+
+-- and where none is
+pub check_nowhere : (p : NodeState) (cells : Addr → Option Cell) (past : ℕ) (a : Addr) (t : TxnId) (r v : ℕ) → None ≡ p.cells a → cells ≡ p.cells → past ≡ max p.past v
+    → PinnedBy p t.actor r → IsStamp r × IsStamp v → (HeldBy p t a → ⊥) → Adds p (Check t a r v (Ok tt)) (record p { cells = cells; past = past })
+check_nowhere p cells past a t r v none same rose pinned stamps not_own = record {
   fits = record { pinned = pinned; stamps = stamps; not_own = not_own; due = ap (check_answer r) none };
-  state = (λ i. plain_from (same i) places pins (rose i) floor actors) ∙ looked_nowhere objects places pins past floor actors a v none;
+  state = (λ i. record p { cells = same i; past = rose i }) ∙ ((λ i. record p { cells = sym (unset a p.cells (sym none)) i; past = max p.past v })
+      ∙ (λ i. record p { cells = set_cell a (raised_to v (none i)) p.cells; past = past_raised v (none i) p.past }));
 }

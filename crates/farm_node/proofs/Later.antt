@@ -1,18 +1,7 @@
 -- The puts of actors: each comes by a lock of an actor, above the stamp of the start.
-use Rattle.std.proofs.Common.{◌≡◌, ◌⊎◌, ℕ, ◌<◌, ◌≤◌, cond, Bool, true, false, List, [], ◌∷◌, Option, Some, None, sym, refl, ◌∙◌, subst, inl, inr, ⊎_elim, arith}
-use Rattle.a1_base.specs.declared.place.Addr.{Addr}
-use Rattle.a1_base.specs.declared.place.TxnId.{TxnId}
-use Rattle.object_region.specs.Occupancy.{same_addr}
-use Rattle.version_chain.specs.Versions.{newest, cut}
-use Rattle.farm_node.specs.declared.hold.Hold.{Hold}
-use Rattle.farm_node.specs.declared.entry.Start.{Start}
-use Rattle.farm_node.specs.declared.entry.Entry.{Entry}
-use Rattle.farm_node.specs.declared.entry.Entry.TheVariants.{Made}
-use Rattle.farm_node.specs.Cell.{Bytes, Cell, loaded_cell}
-use Rattle.farm_node.specs.NodeState.{NodeState, loaded_cells, begun, replay_from, Lawful}
-use Rattle.farm_node.specs.Story.{Installed, Story, story_from, untold}
-use Rattle.farm_node.specs.Laws.{versions_there}
-use Rattle.a1_base.specs.Lists.{IsAmong}
+use Rattle.farm_node.proofs.Common.{◌≡◌, ◌⊎◌, ℕ, ◌<◌, ◌≤◌, List, [], ◌∷◌, Option, Some, None, sym, refl, ◌∙◌, subst, inl, inr, ⊎_elim, arith, cond_both, Addr}
+use Rattle.farm_node.proofs.Common.{TxnId, IsAmong, same_addr, newest, cut, Hold, Start, Entry, Made, Bytes, Cell, loaded_cells, begun, replay_from, Lawful}
+use Rattle.farm_node.proofs.Common.{Installed, Story, story_from, untold, versions_there}
 use Rattle.farm_node.proofs.Sound.{sound_begun}
 use Rattle.farm_node.proofs.Steps.{Keeps, keeps_all}
 use Rattle.farm_node.proofs.Chains.{newest_cut}
@@ -63,25 +52,17 @@ later a start = record {
       };
   unlocked = λ u b c past floor h ending t. record { bar = t.bar; actors = tt; puts = t.puts; newest = t.newest };
   back = λ u b c past floor h ending none t. record { bar = let b : start ≤ c.bound = t.bar in omega arith; actors = tt; puts = t.puts; newest = inl (omega arith) };
-  cut = λ c past past' floor floor' h le more t. record {
-    bar = t.bar;
-    actors = t.actors;
-    puts = t.puts;
-    newest = newest_moved (newest c.versions) (newest (cut floor' c.versions)) floor floor' h.puts (newest_cut floor' c.versions) more t.newest;
-  };
+  cut = λ c past past' floor floor' h le more t.
+      let newest = newest_moved (newest c.versions) (newest (cut floor' c.versions)) floor floor' h.puts (newest_cut floor' c.versions) more t.newest in
+      record { bar = t.bar; actors = t.actors; puts = t.puts; newest = newest };
   went = λ c past past' floor floor' h le more gone high t. record { bar = let b : start ≤ c.bound = t.bar in omega arith; actors = tt; puts = t.puts; newest = inl (omega arith) };
   none = λ past past' floor floor' h le more t. record { bar = let b : start ≤ past = t.bar in omega arith; actors = tt; puts = t.puts; newest = inl (omega arith) };
 }
 
 later_begun : (a : Addr) (stamp : ℕ) (heap : List (Addr × Bytes)) → Later stamp (loaded_cells stamp heap a) stamp stamp untold
 later_begun a stamp [] = record { bar = omega arith; actors = tt; puts = λ i there. absurd there; newest = inl (omega arith) }
-later_begun a stamp (x ∷ xs) = by (later_begun a stamp xs) (same_addr x.0 a) where
-  by : Later stamp (loaded_cells stamp xs a) stamp stamp untold → (g : Bool) → Later stamp (cond g (Some (loaded_cell stamp x.1)) (loaded_cells stamp xs a)) stamp stamp untold
-  by more true = record { bar = omega arith; actors = tt; puts = λ i there. absurd there; newest = inl (omega arith) }
-  by more false = more
+later_begun a stamp (x ∷ xs) = cond_both (same_addr x.0 a) _ _ (λ c. Later stamp c stamp stamp untold)
+    (λ is. record { bar = omega arith; actors = tt; puts = λ i there. absurd there; newest = inl (omega arith) }) (λ e. later_begun a stamp xs)
 
-abbrev pub LaterAt : ℕ → Addr → NodeState → Story → Type 0
-LaterAt start a p h = Later start (p.cells a) p.past p.floor h
-
-pub later_end : (a : Addr) (m : Start) (es : List Entry) → Lawful (Made m ∷ es) → LaterAt m.stamp a (replay_from (begun m) es) (story_from a untold es)
+pub later_end : (a : Addr) (m : Start) (es : List Entry) → Lawful (Made m ∷ es) → Later m.stamp ((replay_from (begun m) es).cells a) (replay_from (begun m) es).past (replay_from (begun m) es).floor (story_from a untold es)
 later_end a m es lawful = keeps_all a (λ e. Unit {0}) (Later m.stamp) (later a m.stamp) (begun m) untold es (sound_begun m lawful.0) lawful.1 (each_unit es) (later_begun a m.stamp m.heap)

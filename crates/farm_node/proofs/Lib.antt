@@ -1,5 +1,7 @@
+pub mod Common
 pub mod Addresses
 pub mod Sound
+pub mod Replies
 pub mod Steps
 pub mod Chains
 pub mod Stories

@@ -1,18 +1,8 @@
 -- What holds of locks and pins through entries of others.
-use Rattle.std.proofs.Common.{◌≡◌, ℕ, ◌<◌, ◌≤◌, max, cond, Bool, true, List, [], ◌∷◌, ◌++◌, Option, Some, None, Ok, Err, sym, refl, ap, ◌∙◌, subst, ⊎_elim, arith}
-use Rattle.std.proofs.lemmas.Bool.{ne_eqb}
-use Rattle.a1_base.specs.declared.place.Addr.{Addr}
-use Rattle.a1_base.specs.declared.place.TxnId.{TxnId}
-use Rattle.version_chain.specs.Versions.{newest}
-use Rattle.farm_node.specs.declared.hold.Hold.{Hold}
-use Rattle.farm_node.specs.declared.entry.Entry.{Entry}
-use Rattle.farm_node.specs.declared.entry.Entry.TheVariants.{Made, Open, Shut, Read, Alloc, Lock, Check, Put, Unlock, Collect}
-use Rattle.farm_node.specs.Cell.{Cell, is_open, is_gone}
-use Rattle.farm_node.specs.NodeState.{NodeState, after, begun, replay_from, Lawful, replay}
-use Rattle.farm_node.specs.Story.{Story, story, story_from}
-use Rattle.std.specs.List.{AllByRecursion}
-use Rattle.farm_node.specs.Locks.{IsOther}
-use Rattle.farm_node.proofs.Addresses.{and_left}
+use Rattle.farm_node.proofs.Common.{◌≡◌, ◌⊎◌, ℕ, ◌<◌, ◌≤◌, ◌==◌, max, List, [], ◌∷◌, ◌++◌, Option, Some, None, Ok, sym, refl, ap, ◌∙◌, subst, ⊎_elim, arith}
+use Rattle.farm_node.proofs.Common.{cond-false, and_parts, ne_eqb, both_ways, AllByRecursion, Addr, TxnId, newest, cut, Hold, Entry, Made, Open, Shut, Read}
+use Rattle.farm_node.proofs.Common.{Lock, Check, Cell, is_open, is_gone, NodeState, after, begun, replay_from, replay, Lawful, Story, story_from, story}
+use Rattle.farm_node.proofs.Common.{IsOther}
 use Rattle.farm_node.proofs.Steps.{Keeps, keeps_all}
 use Rattle.farm_node.proofs.Chains.{newest_cut}
 use Rattle.farm_node.proofs.Stories.{Below, ends, replay_append, Stands, stands_behind}
@@ -33,34 +23,25 @@ record StaysHeld (h : Hold) (bound top : ℕ) (c : Option Cell) (past floor : �
 same_actor : (c : Cell) (h k : Hold) (t : TxnId) → c.lock ≡ Some h → c.lock ≡ Some k → k.by ≡ t → t.actor ≡ h.by.actor
 same_actor c h k t is is' own = cc
 
+bound_kept : (h : Hold) (bound top s : ℕ) (c : Cell) → top ≤ bound → HeldAt h bound top (Some c) → (c.lock ≡ None) ⊎ (s < newest c.versions) → max c.bound s ≡ bound
+bound_kept h bound top s c le t free = ⊎_elim (λ (none : c.lock ≡ None). let held : c.lock ≡ Some h = t.0 in cc)
+    (λ (low : s < newest c.versions). let b : c.bound ≡ bound = t.1 in let n : newest c.versions ≡ top = t.2 in (let r : max c.bound s ≡ bound = omega arith in r)) free
+
 stays_held : (a : Addr) (h : Hold) (bound top : ℕ) → top ≤ bound → Keeps a (IsOther h.by.actor) (StaysHeld h bound top)
 stays_held a h bound top le = record {
   aside = λ c past past' floor story more t. record { held = t.held };
-  looked = λ c s past floor story free t. record {
-    held = (
-      t.held.0,
-      ⊎_elim
-          (λ (none : c.lock ≡ None). let held : c.lock ≡ Some h = t.held.0 in cc)
-          (λ (low : s < newest c.versions). let b : c.bound ≡ bound = t.held.1 in let n : newest c.versions ≡ top = t.held.2 in (let r : max c.bound s ≡ bound = omega arith in r))
-          free,
-      t.held.2,
-    );
-  };
+  looked = λ c s past floor story free t. record { held = (t.held.0, bound_kept h bound top s c le t.held free, t.held.2) };
   made = λ u r v placed past floor story making t. absurd t.held;
   locked = λ u b r new given c past floor story locking t. absurd (⊎_elim
       (λ (free : c.lock ≡ None). let held : c.lock ≡ Some h = t.held.0 in cc)
-      (λ own. locking.fits (same_actor c h own.0 u t.held.0 own.1 own.2))
-      locking.free);
+      (λ own. locking.fits (same_actor c h own.0 u t.held.0 own.1 own.2)) locking.free);
   put = λ u b w c past floor story ending above t. absurd (ending.fits (same_actor c h ending.hold u t.held.0 ending.lock ending.own));
   unlocked = λ u b c past floor story ending t. absurd (ending.fits (same_actor c h ending.hold u t.held.0 ending.lock ending.own));
   back = λ u b c past floor story ending none t. absurd (ending.fits (same_actor c h ending.hold u t.held.0 ending.lock ending.own));
   cut = λ c past past' floor floor' story past_more more t. record { held = (t.held.0, t.held.1, newest_cut floor' c.versions ∙ t.held.2) };
-  went = λ c past past' floor floor' story past_more more gone high t. absurd (not_open c.lock h t.held.0 (and_left (is_open c.lock) (is_gone floor' c.versions) gone));
+  went = λ c past past' floor floor' story past_more more gone high t. absurd (both_ways (is_open c.lock) (ap is_open t.held.0) (and_parts (is_open c.lock) (is_gone floor' c.versions) gone).0);
   none = λ past past' floor floor' story past_more more t. absurd t.held;
-} where
-  not_open : (l : Option Hold) (k : Hold) → l ≡ Some k → is_open l ≡ true → ⊥
-  not_open None k is e = cc
-  not_open (Some x) k is e = cc
+}
 
 held_cell : (h : Hold) (bound top : ℕ) (c : Option Cell) → HeldAt h bound top c → (d : Cell) × (c ≡ Some d) × (d.lock ≡ Some h) × (d.bound ≡ bound) × (newest d.versions ≡ top)
 held_cell h bound top None t = absurd t
@@ -83,19 +64,12 @@ stays (e ∷ es) rest a c h lawful is lock others = absurd lawful
 -- a pin through entries of others
 
 pin_after : (p : NodeState) (k : ℕ) (e : Entry) → IsOther k e → (after p e).pins k ≡ p.pins k
-pin_after p k (Made m) other = refl
-pin_after p k (Open j c x) other = ap (λ (g : Bool). cond g (Some x) (p.pins k)) (ne_eqb j k other)
-pin_after p k (Shut j) other = ap (λ (g : Bool). cond g None (p.pins k)) (ne_eqb j k other)
+pin_after p k (Open j c x) other = cond-false (j == k) (Some x) (p.pins k) (ne_eqb j k other)
+pin_after p k (Shut j) other = cond-false (j == k) None (p.pins k) (ne_eqb j k other)
 pin_after p k (Read j b s (Ok found)) other = refl
-pin_after p k (Read j b s (Err by)) other = refl
-pin_after p k (Alloc u r v placed) other = refl
 pin_after p k (Lock u b r new (Ok given)) other = refl
-pin_after p k (Lock u b r new (Err fault)) other = refl
 pin_after p k (Check u b r w (Ok same)) other = refl
-pin_after p k (Check u b r w (Err fault)) other = refl
-pin_after p k (Put u b w) other = refl
-pin_after p k (Unlock u b) other = refl
-pin_after p k (Collect j f removed) other = refl
+pin_after p k e other = refl
 
 pin_from : (p : NodeState) (k : ℕ) (es : List Entry) → AllByRecursion (IsOther k) es → (replay_from p es).pins k ≡ p.pins k
 pin_from p k [] others = refl

@@ -1,24 +1,17 @@
 -- What holds of the puts on an address.
-use Rattle.std.proofs.Common.{◌≡◌, ◌≢◌, ℕ, ◌<◌, ◌≤◌, ◌==◌, cond, Bool, true, false, List, [], ◌∷◌, ◌++◌, filter, Option, Some, None, Ok, sym, refl, ap, ◌∙◌, subst, arith}
-use Rattle.std.proofs.lemmas.Bool.{eq-eqb, eqb-true, eqb-false, ne_eqb}
-use Rattle.a1_base.specs.declared.place.Addr.{Addr}
-use Rattle.a1_base.specs.declared.place.TxnId.{TxnId}
-use Rattle.object_region.specs.Occupancy.{same_addr}
-use Rattle.version_chain.specs.Versions.{Version, version_at}
-use Rattle.farm_node.specs.declared.entry.Start.{Start}
-use Rattle.farm_node.specs.declared.entry.Entry.{Entry}
-use Rattle.farm_node.specs.declared.entry.Entry.TheVariants.{Made, Check}
-use Rattle.farm_node.specs.Cell.{Bytes, found_of, same_txn}
-use Rattle.farm_node.specs.NodeState.{NodeState, FitsCheck, looked_at, Lawful, replay}
-use Rattle.farm_node.specs.Story.{Given, gives, Installed, Story, with_given, with_put, story_after, story_from, nobody, loaded_puts, untold, story_begun, story, versions_of, value_at, number_of, number_of, stamped_bytes}
+use Rattle.farm_node.proofs.Common.{◌≡◌, ◌≢◌, ℕ, ◌<◌, ◌≤◌, ◌==◌, cond, Bool, true, false, List, [], ◌∷◌, ◌++◌, filter, Option, None, Ok, sym, refl, ap, ◌∙◌}
+use Rattle.farm_node.proofs.Common.{subst, arith, cond_both, cond-true, cond-false, eq-eqb, eqb-true, eqb-false, ne_eqb, Addr, TxnId, same_addr, Version, Start}
+use Rattle.farm_node.proofs.Common.{Entry, Made, Check, Bytes, same_txn, found_of, NodeState, FitsCheck, looked_at, replay, Lawful, Given, gives, Installed}
+use Rattle.farm_node.proofs.Common.{Story, with_given, with_put, story_after, story_from, loaded_puts, untold, story_begun, story, stamped_bytes, value_at}
+use Rattle.farm_node.proofs.Common.{number_of}
 use Rattle.a1_base.specs.Lists.{entries_of}
 use Rattle.farm_node.specs.Puts.{PutsHold}
-use Rattle.farm_node.proofs.Sound.{txn_eq, sound}
+use Rattle.farm_node.proofs.Sound.{txn_eq}
 use Rattle.farm_node.proofs.Steps.{check_open_at}
 use Rattle.farm_node.proofs.Chains.{BelowAll, steady, decided_at}
 use Rattle.farm_node.proofs.Stories.{Ends, ends, Stands, stands}
 use Rattle.farm_node.proofs.Adds.{Adding, nothing, giving, putting, adding}
-use Rattle.farm_node.proofs.ReadsStay.{Barred, fixed_all, barred_less, look_bars}
+use Rattle.farm_node.proofs.ReadsStay.{Barred, fixed_behind, barred_less, look_bars}
 use Rattle.farm_node.proofs.Decided.{low_puts, check_low}
 use Rattle.farm_node.proofs.Later.{later_end}
 
@@ -58,23 +51,17 @@ module _ (a : Addr) (k : ℕ) where
   own_given t g all one o = record { puts = o.puts; given = λ u is. ap (λ (x : Given). cond (same_txn t u) g x) (o.given u is) }
 
   other_given : (t : TxnId) (g : Given) (all one : Story) → t.actor ≢ k → Own all one → Own (with_given t g all) one
-  other_given t g all one other o = record { puts = o.puts; given = λ u is. by u is (same_txn t u) refl } where
-    by : (u : TxnId) → u.actor ≡ k → (x : Bool) → same_txn t u ≡ x → cond x g (all.given u) ≡ one.given u
-    by u is true same = absurd (other (ap (λ (z : TxnId). z.actor) (txn_eq t u same) ∙ is))
-    by u is false same = o.given u is
+  other_given t g all one other o =
+      let apart = λ (u : TxnId) (is : u.actor ≡ k) (same : same_txn t u ≡ true). other (ap (λ (z : TxnId). z.actor) (txn_eq t u same) ∙ is) in
+      record { puts = o.puts; given = λ u is. cond_both (same_txn t u) g (all.given u) (λ x. x ≡ one.given u) (λ same. absurd (apart u is same)) (λ e. o.given u is) }
 
   own_put : (t : TxnId) (w : ℕ) (all one : Story) → t.actor ≡ k → Own all one → Own (with_put t w all) (with_put t w one)
-  own_put t w all one is o = record {
-    puts = ap (λ (x : Bool). cond x (record { by = t; read = (all.given t).read; stamp = w; value = (all.given t).value } ∷ mine all.puts) (mine all.puts)) (eq-eqb t.actor k is)
-        ∙ (λ i. record { by = t; read = (o.given t is i).read; stamp = w; value = (o.given t is i).value } ∷ o.puts i);
-    given = o.given;
-  }
+  own_put t w all one is o =
+      let put = λ (x : Given) (puts : List Installed). record { by = t; read = x.read; stamp = w; value = x.value } ∷ puts in
+      record { puts = cond-true (t.actor == k) _ (mine all.puts) (eq-eqb t.actor k is) ∙ (λ i. put (o.given t is i) (o.puts i)); given = o.given }
 
   other_put : (t : TxnId) (w : ℕ) (all one : Story) → t.actor ≢ k → Own all one → Own (with_put t w all) one
-  other_put t w all one other o = record {
-    puts = ap (λ (x : Bool). cond x (record { by = t; read = (all.given t).read; stamp = w; value = (all.given t).value } ∷ mine all.puts) (mine all.puts)) (ne_eqb t.actor k other) ∙ o.puts;
-    given = o.given;
-  }
+  other_put t w all one other o = record { puts = cond-false (t.actor == k) _ (mine all.puts) (ne_eqb t.actor k other) ∙ o.puts; given = o.given }
 
   own_step : (e : Entry) (all one : Story) → Own all one → (g : Bool) → (number_of e == k) ≡ g → Own (story_after a all e) (cond g (story_after a one e) one)
   own_step e all one o true is = by (adding a e) where
@@ -94,17 +81,13 @@ module _ (a : Addr) (k : ℕ) where
   own_all : (es : List Entry) (all one : Story) → Own all one → mine (story_from a all es).puts ≡ (story_from a one (entries_of number_of k es)).puts
   own_all [] all one o = o.puts
   own_all (e ∷ es) all one o =
-      own_all es (story_after a all e) (cond (number_of e == k) (story_after a one e) one) (own_step e all one o (number_of e == k) refl) ∙ by (number_of e == k) where
-        by : (g : Bool) → (story_from a (cond g (story_after a one e) one) (entries_of number_of k es)).puts ≡ (story_from a one (cond g (e ∷ entries_of number_of k es) (entries_of number_of k es))).puts
-        by true = refl
-        by false = refl
+      own_all es (story_after a all e) (cond (number_of e == k) (story_after a one e) one) (own_step e all one o (number_of e == k) refl)
+      ∙ elim (number_of e == k) as (λ g. (story_from a (cond g (story_after a one e) one) (entries_of number_of k es)).puts
+      ≡ (story_from a one (cond g (e ∷ entries_of number_of k es) (entries_of number_of k es))).puts) [ true ↦ refl | false ↦ refl ]
 
   none_loaded : (stamp : ℕ) (heap : List (Addr × Bytes)) → 0 < k → mine (loaded_puts a stamp heap) ≡ []
   none_loaded stamp [] low = refl
-  none_loaded stamp (x ∷ xs) low = by (same_addr x.0 a) (none_loaded stamp xs low) where
-    by : (g : Bool) → mine (loaded_puts a stamp xs) ≡ [] → mine (cond g (record { by = nobody; read = 0; stamp = stamp; value = Some x.1 } ∷ []) (loaded_puts a stamp xs)) ≡ []
-    by true more = ap (λ (b : Bool). cond b (record { by = nobody; read = 0; stamp = stamp; value = Some x.1 } ∷ []) []) (ne_eqb 0 k (λ e. absurd (omega arith)))
-    by false more = more
+  none_loaded stamp (x ∷ xs) low = cond_both (same_addr x.0 a) _ _ (λ puts. mine puts ≡ []) (λ is. cond-false (0 == k) _ [] (ne_eqb 0 k (λ e. absurd (omega arith)))) (λ e. none_loaded stamp xs low)
 
 own_puts : (log : List Entry) (a : Addr) (k : ℕ) → Lawful log → 0 < k → filter (λ i. i.by.actor == k) (story a log).puts ≡ (story_from a untold (entries_of number_of k log)).puts
 own_puts [] a k lawful low = absurd lawful
@@ -125,22 +108,19 @@ checked before rest t a r w s lawful low high =
     let fits : FitsCheck p t a r w (Ok tt) = x.lawful.0 in
     let puts : BelowAll r h.puts = low_puts a p h t.actor r x.sound x.tells fits.pinned (check_low r (p.cells a) (check_open_at r (p.cells a) fits.due)) in
     let later : Barred w ((looked_at a w p).cells a) (looked_at a w p).past = look_bars a w p in
-    let at_s : version_at s (versions_of (story_from a h rest).puts) ≡ version_at s (versions_of h.puts) =
-    fixed_all a s (looked_at a w p) h rest (sound p e fits x.sound) x.lawful.1 (barred_less s w _ _ high later) in
-    let at_r : version_at r (versions_of (story_from a h rest).puts) ≡ version_at r (versions_of h.puts) =
-    fixed_all a r (looked_at a w p) h rest (sound p e fits x.sound) x.lawful.1 (barred_less r w _ _ (omega arith) later) in
-    let same : version_at s (versions_of (story_from a h rest).puts) ≡ version_at r (versions_of (story_from a h rest).puts) = at_s ∙ (steady r s h.puts puts low ∙ sym at_r) in
-    subst (λ (z : Story). stamped_bytes (found_of (version_at s (versions_of z.puts))) ≡ stamped_bytes (found_of (version_at r (versions_of z.puts)))) (sym x.story)
-    (ap (λ (v : Option Version). stamped_bytes (found_of v)) same)
+    let at_s = fixed_behind a s before rest e x (barred_less s w _ _ high later) in
+    let at_r = fixed_behind a r before rest e x (barred_less r w _ _ (omega arith) later) in
+    ap (λ (v : Option Version). stamped_bytes (found_of v)) (at_s ∙ (steady r s h.puts puts low ∙ sym at_r))
 
+-- the law of puts
 pub puts : PutsHold
 puts = record {
-  falls = λ log a lawful. (ends a log lawful).tells.falls;
+  falls = λ log a lawful. (ends a log lawful).tells.order.0;
   loaded = loaded;
   later = λ m es a i lawful there. (later_end a m es lawful).puts i there;
   decided = λ log a i s lawful there low high.
       let t : Ends a log = ends a log lawful in
-      ap (λ (v : Option Version). stamped_bytes (found_of v)) (decided_at (story a log).puts i s t.tells.falls t.tells.decided there low high);
+      ap (λ (v : Option Version). stamped_bytes (found_of v)) (decided_at (story a log).puts i s t.tells.order.0 t.tells.order.1 there low high);
   checked = checked;
   own = own_puts;
 }

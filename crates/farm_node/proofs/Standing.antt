@@ -1,14 +1,7 @@
 -- One entry more at the end of a list, and loaded objects as those of a start.
-use Rattle.std.proofs.Common.{◌≡◌, List, [], ◌∷◌, ◌++◌, sym, refl, ap, ◌∙◌, subst}
-use Rattle.a1_base.specs.declared.place.Addr.{Addr}
+use Rattle.farm_node.proofs.Common.{◌≡◌, List, [], ◌∷◌, ◌++◌, sym, refl, ap, ◌∙◌, subst, Addr, Start, Entry, Made, Bytes, NodeState, Fits, after, Adds, begun}
+use Rattle.farm_node.proofs.Common.{Loads, IsStart, replay_from, LawfulFrom, with_objects, CanLoad, plain_of, StandsFor}
 use Rattle.farm_node.specs.declared.node.Node.{Node}
-use Rattle.farm_node.specs.declared.entry.Start.{Start}
-use Rattle.farm_node.specs.declared.entry.Entry.{Entry}
-use Rattle.farm_node.specs.declared.entry.Entry.TheVariants.{Made}
-use Rattle.farm_node.specs.Cell.{Bytes}
-use Rattle.farm_node.specs.NodeState.{NodeState, Fits, Adds, after, begun, Loads, IsStart, replay_from, LawfulFrom}
-use Rattle.farm_node.specs.State.{with_objects, CanLoad}
-use Rattle.farm_node.specs.Node.{plain_of, StandsFor}
 use Rattle.farm_node.specs.Standing.{with_heap, ListsGoOn}
 use Rattle.farm_node.proofs.Stories.{replay_append}
 

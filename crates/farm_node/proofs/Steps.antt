@@ -1,25 +1,13 @@
 -- What an event does to one address, said once.
-use Rattle.std.proofs.Common.{◌≡◌, ◌⊎◌, ℕ, ◌<◌, ◌≤◌, nat_lt, max, cond, Bool, true, false, List, [], ◌∷◌, Option, Some, None, Result, Ok, Err, is_some, sym, refl, ap, ◌∙◌, subst, inl, inr, ⊎_elim, arith}
-use Rattle.std.proofs.lemmas.Bool.{ltb-true, ltb-false}
-use Rattle.a1_base.specs.declared.place.Addr.{Addr}
-use Rattle.a1_base.specs.declared.place.TxnId.{TxnId}
-use Rattle.object_region.specs.Occupancy.{same_addr}
-use Rattle.version_chain.specs.Versions.{Version, newest, cut}
-use Rattle.farm_node.specs.declared.hold.Hold.{Hold}
-use Rattle.farm_node.specs.declared.entry.Found.{Found}
-use Rattle.farm_node.specs.declared.entry.Locked.{Locked}
-use Rattle.farm_node.specs.declared.entry.Placed.{Placed}
-use Rattle.farm_node.specs.declared.entry.CheckFault.{CheckFault}
-use Rattle.farm_node.specs.declared.entry.CheckFault.TheVariants.{Held, Changed}
-use Rattle.farm_node.specs.declared.entry.Entry.{Entry}
-use Rattle.farm_node.specs.declared.entry.Entry.TheVariants.{Made, Open, Shut, Read, Alloc, Lock, Check, Put, Unlock, Collect}
-use Rattle.farm_node.specs.Cell.{Bytes, Cell, same_txn, found_at, read_answer, raised_to, past_raised, made_by, locked_by, lock_given, unless_changed, lock_answer, check_answer, pending_of, installed, released, past_released, goes, collected, past_collected}
-use Rattle.farm_node.specs.NodeState.{NodeState, set_cell, places, new_floor, past_over, HeldBy, HasValue, HeldNew, MayPut, FitsLock, Fits, after, replay_from, LawfulFrom}
-use Rattle.farm_node.specs.Story.{gives, Story, with_given, with_put, story_after, story_from}
-use Rattle.a1_base.specs.Lists.{IsAmong}
-use Rattle.std.specs.List.{AllByRecursion}
-use Rattle.farm_node.proofs.Addresses.{addr_eq}
-use Rattle.farm_node.proofs.Sound.{txn_eq, Here, Sits, Lies, among_all, Sound, sound, pinned}
+use Rattle.farm_node.proofs.Common.{◌≡◌, ◌⊎◌, ℕ, ◌<◌, ◌≤◌, max, cond, Bool, true, false, List, [], ◌∷◌, Option, Some, None, Result, Ok, is_some, sym, refl, ap}
+use Rattle.farm_node.proofs.Common.{◌∙◌, subst, inl, inr, ⊎_elim, arith, cond_both, AllByRecursion, Addr, TxnId, IsAmong, same_addr, Version, newest, cut, Hold}
+use Rattle.farm_node.proofs.Common.{Found, Placed, Locked, CheckFault, Entry, Read, Alloc, Lock, Check, Put, Unlock, Collect, Bytes, Cell, is_open, read_answer}
+use Rattle.farm_node.proofs.Common.{raised_to, past_raised, made_by, locked_by, lock_answer, check_answer, pending_of, installed, released, past_released, goes}
+use Rattle.farm_node.proofs.Common.{collected, past_collected, NodeState, set_cell, places, new_floor, past_over, HeldBy, HeldNew, HasValue, FitsLock, Fits}
+use Rattle.farm_node.proofs.Common.{looked_at, after, replay_from, LawfulFrom, gives, Story, with_given, with_put, story_after, story_from}
+use Rattle.farm_node.proofs.Addresses.{addr_eq, set_cases}
+use Rattle.farm_node.proofs.Sound.{Here, Sits, Lies, among_all, Sound, sound, pinned}
+use Rattle.farm_node.proofs.Replies.{read_cases, lock_cases, check_cases}
 
 -- what is known where an object is made, where a lock is given, and where a transaction ends its lock
 
@@ -91,7 +79,7 @@ past_over_more floor cells (b ∷ bs) past =
 
 -- past reaches the bound of what goes
 
-abbrev Reaches : ℕ → Option Cell → ℕ → Type 0
+abbrev pub Reaches : ℕ → Option Cell → ℕ → Type 0
 Reaches floor None past = Unit {0}
 Reaches floor (Some c) past = goes floor c ≡ true → c.bound ≤ past
 
@@ -103,41 +91,20 @@ reaches_more : (floor : ℕ) (c : Option Cell) (m n : ℕ) → m ≤ n → Reach
 reaches_more floor None m n le t = tt
 reaches_more floor (Some c) m n le t = λ g. let x : c.bound ≤ m = t g in omega arith
 
-reached_over : (floor : ℕ) (cells : Addr → Option Cell) (all : List Addr) (past : ℕ) (a : Addr) → IsAmong a all → Reaches floor (cells a) (past_over floor cells all past)
+pub reached_over : (floor : ℕ) (cells : Addr → Option Cell) (all : List Addr) (past : ℕ) (a : Addr) → IsAmong a all → Reaches floor (cells a) (past_over floor cells all past)
 reached_over floor cells [] past a there = absurd there
 reached_over floor cells (b ∷ bs) past a there = ⊎_elim
     (λ (is : b ≡ a). subst (λ (z : Addr). Reaches floor (cells z) (past_over floor cells (b ∷ bs) past)) is (reached floor (cells b) (past_over floor cells bs past)))
     (λ more. reaches_more floor (cells a) (past_over floor cells bs past) (past_over floor cells (b ∷ bs) past) (past_collected_more floor (cells b) (past_over floor cells bs past))
-    (reached_over floor cells bs past a more))
-    there
+    (reached_over floor cells bs past a more)) there
 
 -- what an answer says of the object
 
 read_open : (s : ℕ) (found : Found) (c : Cell) → Ok found ≡ read_answer s (Some c) → (c.lock ≡ None) ⊎ (s < newest c.versions)
-read_open s found c due = by c.lock refl due where
-  held : (k : Hold) (g : Bool) → nat_lt s (newest c.versions) ≡ g → Ok found ≡ cond g (Ok (found_at s c.versions)) (Err k.by) → s < newest c.versions
-  held k true is due = ltb-true s (newest c.versions) is
-  held k false is due = cc
-
-  by : (l : Option Hold) → c.lock ≡ l
-      → Ok found ≡ elim l as (λ _. Result Found TxnId) [ None ↦ Ok (found_at s c.versions) | Some h ↦ cond (nat_lt s (newest c.versions)) (Ok (found_at s c.versions)) (Err h.by) ]
-      → (c.lock ≡ None) ⊎ (s < newest c.versions)
-  by None is due = inl is
-  by (Some k) is due = inr (held k (nat_lt s (newest c.versions)) refl due)
-
--- what answered Ok has no version above r
-unchanged : {X : Type 0} (r : ℕ) (c : Cell) (x y : X) → Ok x ≡ unless_changed r c y → newest c.versions ≤ r
-unchanged r c x y due = by (nat_lt r (newest c.versions)) refl due where
-  by : (g : Bool) → nat_lt r (newest c.versions) ≡ g → Ok x ≡ cond g (Err (Changed (found_at r c.versions).stamp (newest c.versions))) (Ok y) → newest c.versions ≤ r
-  by true is due = cc
-  by false is due = ltb-false r (newest c.versions) is
+read_open s found c due = read_cases s c (λ z. Ok found ≡ z → (c.lock ≡ None) ⊎ (s < newest c.versions)) (λ free e. free) (λ k is e. absurd (cc)) due
 
 check_open : (r : ℕ) (c : Cell) → Ok tt ≡ check_answer r (Some c) → (c.lock ≡ None) × (newest c.versions ≤ r)
-check_open r c due = by c.lock refl due where
-  by : (l : Option Hold) → c.lock ≡ l → Ok tt ≡ elim l as (λ _. Result (Unit {0}) CheckFault) [ None ↦ unless_changed r c tt | Some h ↦ Err (Held h.by) ]
-      → (c.lock ≡ None) × (newest c.versions ≤ r)
-  by None is due = (is, unchanged r c tt tt due)
-  by (Some k) is due = cc
+check_open r c due = check_cases r c (λ z. Ok tt ≡ z → (c.lock ≡ None) × (newest c.versions ≤ r)) (λ k is e. absurd (cc)) (λ above e. absurd (cc)) (λ is low e. (is, low)) due
 
 -- a lock that was given was free, and no version is above r, or is the transaction's own of a new object
 record LockOpen (t : TxnId) (r : ℕ) (c : Cell) : Type 0 where
@@ -145,16 +112,8 @@ record LockOpen (t : TxnId) (r : ℕ) (c : Cell) : Type 0 where
   free : (c.lock ≡ None) ⊎ ((k : Hold) × (c.lock ≡ Some k) × (k.by ≡ t))
 
 lock_open : (t : TxnId) (r : ℕ) (given : Locked) (c : Cell) → ((k : Hold) → c.lock ≡ Some k → k.by ≡ t → c.versions ≡ []) → Ok given ≡ lock_answer t r (Some c) → LockOpen t r c
-lock_open t r given c new due = by c.lock refl due where
-  own : (k : Hold) → c.lock ≡ Some k → (g : Bool) → same_txn k.by t ≡ g → Ok given ≡ cond g (Ok (lock_given 0 c.bound)) (Err (Held k.by)) → LockOpen t r c
-  own k is true same due = let mine : k.by ≡ t = txn_eq k.by t same in record { low = subst (λ (vs : List Version). newest vs ≤ r) (sym (new k is mine)) (omega arith); free = inr (k, is, mine) }
-  own k is false same due = cc
-
-  by : (l : Option Hold) → c.lock ≡ l
-      → Ok given ≡ elim l as (λ _. Result Locked CheckFault) [ None ↦ unless_changed r c (lock_given (newest c.versions) c.bound) | Some h ↦ cond (same_txn h.by t) (Ok (lock_given 0 c.bound)) (Err (Held h.by)) ]
-      → LockOpen t r c
-  by None is due = record { low = unchanged r c given _ due; free = inl is }
-  by (Some k) is due = own k is (same_txn k.by t) refl due
+lock_open t r given c new due = lock_cases t r c (λ z. Ok given ≡ z → LockOpen t r c) (λ k is e. absurd (cc)) (λ above e. absurd (cc)) (λ is low e. record { low = low; free = inl is })
+    (λ k is own e. record { low = subst (λ (vs : List Version). newest vs ≤ r) (sym (new k is own)) (omega arith); free = inr (k, is, own) }) due
 
 pub no_cell : (c : Option Cell) → is_some c ≡ false → c ≡ None
 no_cell None e = refl
@@ -166,6 +125,7 @@ pub record Askable (t : TxnId) (found : Option Cell) : Type 0 where
   pub is : found ≡ Some cell
   pub new : (k : Hold) → cell.lock ≡ Some k → k.by ≡ t → cell.versions ≡ []
 
+-- the condition of a lock says so
 pub askable : (p : NodeState) (t : TxnId) (b : Addr) (r : ℕ) (answer : Result Locked CheckFault) → FitsLock p t b r answer → Askable t (p.cells b)
 askable p t b r answer fits = ⊎_elim
     (λ (x : HasValue p b r × (HeldBy p t b → ⊥)). record { cell = x.0.0; is = x.0.2; new = λ k lock own. absurd (x.1 (x.0.0, k, x.0.2, lock, own)) })
@@ -182,102 +142,85 @@ lock_low p t b r given fits = (lock_was p t b r given fits).low
 pub check_open_at : (r : ℕ) (found : Option Cell) → Ok tt ≡ check_answer r found → (c : Cell) → found ≡ Some c → (c.lock ≡ None) × (newest c.versions ≤ r)
 check_open_at r found due c is = check_open r c (due ∙ ap (check_answer r) is)
 
+-- an object that is there lies among the places, so past reaches its bound
+reached_sound : (floor : ℕ) (p : NodeState) (a : Addr) → Sound p → Reaches floor (p.cells a) (past_over floor p.cells (places p.regions) p.past)
+reached_sound floor p a s = by (p.cells a) (s.sits a) (λ lies. reached_over floor p.cells (places p.regions) p.past a (among_all a p.regions lies)) where
+  by : (c : Option Cell) → Here (Sits p.regions a) c → (Lies p.regions a → Reaches floor c (past_over floor p.cells (places p.regions) p.past)) → Reaches floor c (past_over floor p.cells (places p.regions) p.past)
+  by None sits reach = tt
+  by (Some c) sits reach = reach sits.lies
+
 module _ (a : Addr) (Q : Entry → Type 0) (P : Option Cell → ℕ → ℕ → Story → Type 0) (k : Keeps a Q P) where
   abbrev At : NodeState → Story → Type 0
   At p h = P (p.cells a) p.past p.floor h
 
   -- P of what is at b, where b is a
-  moved : (b : Addr) (p : NodeState) (h : Story) (c : Option Cell) → same_addr b a ≡ true → p.cells b ≡ c → At p h → P c p.past p.floor h
-  moved b p h c e is t = subst (λ (z : Option Cell). P z p.past p.floor h) (ap p.cells (sym (addr_eq b a e)) ∙ is) t
+  moved : (b : Addr) (p : NodeState) (h : Story) (c : Option Cell) → b ≡ a → p.cells b ≡ c → At p h → P c p.past p.floor h
+  moved b p h c e is t = subst (λ (z : Option Cell). P z p.past p.floor h) (ap p.cells (sym e) ∙ is) t
 
-  look_step : (s : ℕ) (b : Addr) (p : NodeState) (h : Story) → ((c : Cell) → p.cells b ≡ Some c → (c.lock ≡ None) ⊎ (s < newest c.versions)) → At p h
-      → P (set_cell b (raised_to s (p.cells b)) p.cells a) (past_raised s (p.cells b) p.past) p.floor h
-  look_step s b p h is_open t = by (same_addr b a) refl where
+  -- a change at b: it makes P where b is a, and elsewhere past alone may rise
+  step : (b : Addr) (c : Option Cell) (past : ℕ) (p : NodeState) (h : Story) → p.past ≤ past → (b ≡ a → P c past p.floor h) → At p h → P (set_cell b c p.cells a) past p.floor h
+  step b c past p h le here t = set_cases (λ z d. z ≡ a → P d past p.floor h) b a c p.cells here (λ e is. k.aside (p.cells a) p.past past p.floor h le t) refl
+
+  -- the same where the story goes on with it
+  told : (b : Addr) (c : Option Cell) (p : NodeState) (h new : Story) → (b ≡ a → P c p.past p.floor new) → At p h → P (set_cell b c p.cells a) p.past p.floor (cond (same_addr b a) new h)
+  told b c p h new here t = by (same_addr b a) refl where
+    by : (g : Bool) → same_addr b a ≡ g → P (cond g c (p.cells a)) p.past p.floor (cond g new h)
+    by true e = here (addr_eq b a e)
+    by false e = t
+
+  look_step : (s : ℕ) (b : Addr) (p : NodeState) (h : Story) → ((c : Cell) → p.cells b ≡ Some c → (c.lock ≡ None) ⊎ (s < newest c.versions)) → At p h → At (looked_at b s p) h
+  look_step s b p h is_open t = step b (raised_to s (p.cells b)) (past_raised s (p.cells b) p.past) p h (past_raised_more s (p.cells b) p.past) (λ e. on (p.cells b) refl (moved b p h (p.cells b) e refl t)) t where
     on : (c : Option Cell) → p.cells b ≡ c → P c p.past p.floor h → P (raised_to s c) (past_raised s c p.past) p.floor h
     on None is t = k.aside None p.past (max p.past s) p.floor h (omega arith) t
     on (Some c) is t = k.looked c s p.past p.floor h (is_open c is) t
 
-    by : (g : Bool) → same_addr b a ≡ g → P (cond g (raised_to s (p.cells b)) (p.cells a)) (past_raised s (p.cells b) p.past) p.floor h
-    by true e = on (p.cells b) refl (moved b p h (p.cells b) e refl t)
-    by false e = k.aside (p.cells a) p.past (past_raised s (p.cells b) p.past) p.floor h (past_raised_more s (p.cells b) p.past) t
+  unlock_here : (u : TxnId) (b : Addr) (past floor : ℕ) (h : Story) (c : Cell) → Ending a Q (Unlock u b) u b c → (vs : List Version) → c.versions ≡ vs → P (Some c) past floor h
+      → P (elim vs as (λ _. Option Cell) [ [] ↦ None | v ∷ more ↦ Some (record c { lock = None }) ]) (elim vs as (λ _. ℕ) [ [] ↦ max past c.bound | v ∷ more ↦ past ]) floor h
+  unlock_here u b past floor h c ending [] is t = k.back u b c past floor h ending is t
+  unlock_here u b past floor h c ending (v ∷ more) is t = k.unlocked u b c past floor h ending t
 
-  made_step : (u : TxnId) (r : ℕ) (v : Bytes) (placed : Placed) (p : NodeState) (h : Story) → (placed.at ≡ a → Making a Q u r v placed p.past p.floor) → p.cells placed.at ≡ None → At p h
-      → P (set_cell placed.at (Some (made_by u v placed.bound)) p.cells a) p.past p.floor (cond (same_addr placed.at a) (with_given u (gives r (Some v)) h) h)
-  made_step u r v placed p h making free t = by (same_addr placed.at a) refl where
-    by : (g : Bool) → same_addr placed.at a ≡ g → P (cond g (Some (made_by u v placed.bound)) (p.cells a)) p.past p.floor (cond g (with_given u (gives r (Some v)) h) h)
-    by true e = k.made u r v placed p.past p.floor h (making (addr_eq placed.at a e)) (moved placed.at p h None e free t)
-    by false e = t
+  collect_here : (floor floor' past past' : ℕ) (h : Story) (c : Option Cell) → past ≤ past' → floor ≤ floor' → Reaches floor' c past' → P c past floor h → P (collected floor' c) past' floor' h
+  collect_here floor floor' past past' h None le more reach t = k.none past past' floor floor' h le more t
+  collect_here floor floor' past past' h (Some c) le more reach t = cond_both (goes floor' c) _ _ (λ d. P d past' floor' h)
+      (λ is. k.went c past past' floor floor' h le more is (reach is) t) (λ e. k.cut c past past' floor floor' h le more t)
 
-  lock_step : (u : TxnId) (b : Addr) (r : ℕ) (new : Option Bytes) (given : Locked) (p : NodeState) (h : Story) → Sound p → FitsLock p u b r (Ok given) → Q (Lock u b r new (Ok given)) → At p h
-      → P (set_cell b (locked_by u new (p.cells b)) p.cells a) p.past p.floor (cond (same_addr b a) (with_given u (gives r new) h) h)
-  lock_step u b r new given p h s fits q t = by (same_addr b a) refl where
-    ask : Askable u (p.cells b)
-    ask = askable p u b r (Ok given) fits
-
-    was : LockOpen u r ask.cell
-    was = lock_was p u b r given fits
-
-    by : (g : Bool) → same_addr b a ≡ g → P (cond g (locked_by u new (p.cells b)) (p.cells a)) p.past p.floor (cond g (with_given u (gives r new) h) h)
-    by true e = subst (λ (c : Option Cell). P (locked_by u new c) p.past p.floor (with_given u (gives r new) h)) (sym ask.is)
-        (k.locked u b r new given ask.cell p.past p.floor h
-        record { fits = q; here = addr_eq b a e; actor = (pinned p u.actor r s fits.pinned).0; pinned = (pinned p u.actor r s fits.pinned).1; low = was.low; free = was.free }
-        (moved b p h (Some ask.cell) e ask.is t))
-    by false e = t
-
-  put_step : (u : TxnId) (b : Addr) (w : ℕ) (p : NodeState) (h : Story) → MayPut p u b w → Q (Put u b w) → At p h
-      → P (set_cell b (installed w (p.cells b)) p.cells a) p.past p.floor (cond (same_addr b a) (with_put u w h) h)
-  put_step u b w p h may q t = by (same_addr b a) refl where
-    by : (g : Bool) → same_addr b a ≡ g → P (cond g (installed w (p.cells b)) (p.cells a)) p.past p.floor (cond g (with_put u w h) h)
-    by true e = subst (λ (c : Option Cell). P (installed w c) p.past p.floor (with_put u w h)) (sym may.2)
-        (k.put u b w may.0 p.past p.floor h record { fits = q; here = addr_eq b a e; hold = may.1; lock = may.3; own = may.4 } may.5 (moved b p h (Some may.0) e may.2 t))
-    by false e = t
-
-  unlock_step : (u : TxnId) (b : Addr) (p : NodeState) (h : Story) → HeldBy p u b → Q (Unlock u b) → At p h
-      → P (set_cell b (released (p.cells b)) p.cells a) (past_released (p.cells b) p.past) p.floor h
-  unlock_step u b p h held q t = by (same_addr b a) refl where
-    on : (c : Cell) → Ending a Q (Unlock u b) u b c → (vs : List Version) → c.versions ≡ vs → P (Some c) p.past p.floor h
-        → P (elim vs as (λ _. Option Cell) [ [] ↦ None | v ∷ more ↦ Some (record c { lock = None }) ]) (elim vs as (λ _. ℕ) [ [] ↦ max p.past c.bound | v ∷ more ↦ p.past ]) p.floor h
-    on c ending [] is t = k.back u b c p.past p.floor h ending is t
-    on c ending (v ∷ more) is t = k.unlocked u b c p.past p.floor h ending t
-
-    by : (g : Bool) → same_addr b a ≡ g → P (cond g (released (p.cells b)) (p.cells a)) (past_released (p.cells b) p.past) p.floor h
-    by true e = subst (λ (c : Option Cell). P (released c) (past_released c p.past) p.floor h) (sym held.2)
-        (on held.0 record { fits = q; here = addr_eq b a e; hold = held.1; lock = held.3; own = held.4 } held.0.versions refl (moved b p h (Some held.0) e held.2 t))
-    by false e = k.aside (p.cells a) p.past (past_released (p.cells b) p.past) p.floor h (past_released_more (p.cells b) p.past) t
-
-  collect_step : (f : ℕ) (p : NodeState) (h : Story) → Sound p → At p h
-      → P (collected (new_floor p f) (p.cells a)) (past_over (new_floor p f) p.cells (places p.regions) p.past) (new_floor p f) h
-  collect_step f p h s t = by (p.cells a) (s.sits a) (λ lies. reached_over (new_floor p f) p.cells (places p.regions) p.past a (among_all a p.regions lies)) t where
-    more : p.past ≤ past_over (new_floor p f) p.cells (places p.regions) p.past
-    more = past_over_more (new_floor p f) p.cells (places p.regions) p.past
-
-    one : (c : Cell) (g : Bool) → goes (new_floor p f) c ≡ g → (goes (new_floor p f) c ≡ true → c.bound ≤ past_over (new_floor p f) p.cells (places p.regions) p.past) → P (Some c) p.past p.floor h
-        → P (cond g None (Some (record c { versions = cut (new_floor p f) c.versions }))) (past_over (new_floor p f) p.cells (places p.regions) p.past) (new_floor p f) h
-    one c true is reach t = k.went c p.past _ p.floor _ h more (omega arith) is (reach is) t
-    one c false is reach t = k.cut c p.past _ p.floor _ h more (omega arith) t
-
-    by : (c : Option Cell) → Here (Sits p.regions a) c → (Lies p.regions a → Reaches (new_floor p f) c (past_over (new_floor p f) p.cells (places p.regions) p.past)) → P c p.past p.floor h
-        → P (collected (new_floor p f) c) (past_over (new_floor p f) p.cells (places p.regions) p.past) (new_floor p f) h
-    by None sits reach t = k.none p.past _ p.floor _ h more (omega arith) t
-    by (Some c) sits reach t = one c (goes (new_floor p f) c) refl (reach sits.lies) t
-
+  -- each lawful entry keeps P
   pub keeps : (p : NodeState) (h : Story) (e : Entry) → Sound p → Fits p e → Q e → At p h → At (after p e) (story_after a h e)
-  keeps p h (Made m) s fits q t = t
-  keeps p h (Open j c x) s fits q t = t
-  keeps p h (Shut j) s fits q t = t
   keeps p h (Read j b x (Ok found)) s fits q t = look_step x b p h (λ c is. read_open x found c (fits.2 ∙ ap (read_answer x) is)) t
-  keeps p h (Read j b x (Err by)) s fits q t = t
-  keeps p h (Alloc u r v placed) s fits q t = made_step u r v placed p h
-      (λ is. record { fits = q; here = is; actor = (pinned p u.actor r s fits.0).0; pinned = (pinned p u.actor r s fits.0).1; over = omega arith })
-      (no_cell (p.cells placed.at) fits.2.free) t
-  keeps p h (Lock u b r new (Ok given)) s fits q t = lock_step u b r new given p h s fits q t
-  keeps p h (Lock u b r new (Err fault)) s fits q t = t
+  keeps p h (Alloc u r v placed) s fits q t =
+      let pin = pinned p u.actor r s fits.0 in
+      told placed.at (Some (made_by u v placed.bound)) p h (with_given u (gives r (Some v)) h)
+      (λ is. k.made u r v placed p.past p.floor h record { fits = q; here = is; actor = pin.0; pinned = pin.1; over = omega arith }
+      (moved placed.at p h None is (no_cell (p.cells placed.at) fits.2.free) t)) t
+  keeps p h (Lock u b r new (Ok given)) s fits q t =
+      let ask : Askable u (p.cells b) = askable p u b r (Ok given) fits in
+      let was : LockOpen u r ask.cell = lock_was p u b r given fits in
+      let pin = pinned p u.actor r s fits.pinned in
+      told b (locked_by u new (p.cells b)) p h (with_given u (gives r new) h)
+      (λ is. subst (λ (c : Option Cell). P (locked_by u new c) p.past p.floor (with_given u (gives r new) h)) (sym ask.is)
+      (k.locked u b r new given ask.cell p.past p.floor h record { fits = q; here = is; actor = pin.0; pinned = pin.1; low = was.low; free = was.free } (moved b p h (Some ask.cell) is ask.is t))) t
   keeps p h (Check u b r w (Ok same)) s fits q t = look_step w b p h (λ c is. inl (check_open_at r (p.cells b) fits.due c is).0) t
-  keeps p h (Check u b r w (Err fault)) s fits q t = t
-  keeps p h (Put u b w) s fits q t = put_step u b w p h fits.0 q t
-  keeps p h (Unlock u b) s fits q t = unlock_step u b p h fits q t
-  keeps p h (Collect j f removed) s fits q t = collect_step f p h s t
+  keeps p h (Put u b w) s fits q t =
+      let may = fits.0 in
+      told b (installed w (p.cells b)) p h (with_put u w h)
+      (λ is. subst (λ (c : Option Cell). P (installed w c) p.past p.floor (with_put u w h)) (sym may.2)
+      (k.put u b w may.0 p.past p.floor h record { fits = q; here = is; hold = may.1; lock = may.3; own = may.4 } may.5 (moved b p h (Some may.0) is may.2 t))) t
+  keeps p h (Unlock u b) s held q t =
+      step b (released (p.cells b)) (past_released (p.cells b) p.past) p h (past_released_more (p.cells b) p.past)
+      (λ is. subst (λ (c : Option Cell). P (released c) (past_released c p.past) p.floor h) (sym held.2)
+      (unlock_here u b p.past p.floor h held.0 record { fits = q; here = is; hold = held.1; lock = held.3; own = held.4 } held.0.versions refl (moved b p h (Some held.0) is held.2 t))) t
+  keeps p h (Collect j f removed) s fits q t = collect_here p.floor (new_floor p f) p.past (past_over (new_floor p f) p.cells (places p.regions) p.past) h (p.cells a)
+      (past_over_more (new_floor p f) p.cells (places p.regions) p.past) (omega arith) (reached_sound (new_floor p f) p a s) t
+  keeps p h e s fits q t = t
 
+  -- and so does a list of them
   pub keeps_all : (p : NodeState) (h : Story) (es : List Entry) → Sound p → LawfulFrom p es → AllByRecursion Q es → At p h → At (replay_from p es) (story_from a h es)
   keeps_all p h [] s lawful q t = t
   keeps_all p h (e ∷ es) s lawful q t = keeps_all (after p e) (story_after a h e) es (sound p e lawful.0 s) lawful.1 q.1 (keeps p h e s lawful.0 q.0 t)
+
+  -- what P says of each entry, holds of each
+  pub keeps_each : (R : Entry → Type 0) → ((p : NodeState) (h : Story) (e : Entry) → Fits p e → At p h → R e) → (p : NodeState) (h : Story) (es : List Entry)
+      → Sound p → LawfulFrom p es → AllByRecursion Q es → At p h → AllByRecursion R es
+  keeps_each R f p h [] s lawful q t = tt
+  keeps_each R f p h (e ∷ es) s lawful q t =
+      (f p h e lawful.0 t, keeps_each R f (after p e) (story_after a h e) es (sound p e lawful.0 s) lawful.1 q.1 (keeps p h e s lawful.0 q.0 t))

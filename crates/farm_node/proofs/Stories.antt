@@ -1,19 +1,9 @@
 -- What the state at one address knows of the address's whole story.
-use Rattle.std.proofs.Common.{◌≡◌, ℕ, ◌<◌, ◌≤◌, nat_le, max, cond, Bool, true, false, List, [], ◌∷◌, ◌++◌, Option, Some, None, sym, refl, ap, ◌∙◌, subst, arith}
-use Rattle.a1_base.specs.declared.place.Addr.{Addr}
-use Rattle.a1_base.specs.declared.place.TxnId.{TxnId}
-use Rattle.object_region.specs.Occupancy.{same_addr}
-use Rattle.version_chain.specs.Versions.{Version, version_at, newest, Falls}
-use Rattle.farm_node.specs.declared.hold.Hold.{Hold}
-use Rattle.farm_node.specs.declared.entry.Start.{Start}
-use Rattle.farm_node.specs.declared.entry.Entry.{Entry}
-use Rattle.farm_node.specs.declared.entry.Entry.TheVariants.{Made}
-use Rattle.farm_node.specs.Cell.{Bytes, Cell, found_of, found_at, pending_of, is_open, is_gone, loaded_cell}
-use Rattle.farm_node.specs.NodeState.{NodeState, after, loaded_cells, begun, replay_from, LawfulFrom, replay, Lawful}
-use Rattle.farm_node.specs.Story.{gives, Installed, Story, with_given, story_after, story_from, loaded_puts, story_begun, story, nobody, versions_of, stamped_bytes}
-use Rattle.farm_node.specs.Laws.{versions_there}
-use Rattle.std.specs.List.{AllByRecursion}
-use Rattle.farm_node.proofs.Addresses.{and_right}
+use Rattle.farm_node.proofs.Common.{◌≡◌, ℕ, ◌<◌, ◌≤◌, nat_le, max, cond, Bool, true, false, List, [], ◌∷◌, ◌++◌, Option, Some, None, sym, refl, ap, ◌∙◌, subst}
+use Rattle.farm_node.proofs.Common.{arith, and_parts, AllByRecursion, Addr, TxnId, same_addr, Version, version_at, newest, cut, Falls, Hold, Start, Entry, Made}
+use Rattle.farm_node.proofs.Common.{Bytes, Cell, is_open, found_of, found_at, loaded_cell, pending_of, is_gone, NodeState, after, loaded_cells, begun}
+use Rattle.farm_node.proofs.Common.{replay_from, LawfulFrom, replay, Lawful, gives, Installed, Story, with_given, story_after, story_from, nobody, loaded_puts}
+use Rattle.farm_node.proofs.Common.{story_begun, story, versions_of, stamped_bytes, versions_there}
 use Rattle.farm_node.proofs.Sound.{txn_self, Sound, sound_begun, sound_end}
 use Rattle.farm_node.proofs.Steps.{Keeps, keeps_all}
 use Rattle.farm_node.proofs.Chains.{cut_at, newest_cut, gone_at, BelowAll, below_more, newest_below, Decided}
@@ -38,14 +28,17 @@ abbrev pub Below : Option Cell → Type 0
 Below None = Unit {0}
 Below (Some c) = newest c.versions ≤ c.bound
 
+-- from the floor on the versions there show what the puts show, and no put is above both
+pub record Shows (versions : List Version) (floor : ℕ) (puts : List Installed) : Type 0 where
+  pub same : (s : ℕ) → floor ≤ s → stamped_bytes (found_at s versions) ≡ stamped_bytes (found_at s (versions_of puts))
+  pub top : BelowAll (max floor (newest versions)) puts
+
 pub record Tells (c : Option Cell) (past floor : ℕ) (h : Story) : Type 0 where
-  pub same : (s : ℕ) → floor ≤ s → stamped_bytes (found_at s (versions_there c)) ≡ stamped_bytes (found_at s (versions_of h.puts))
+  pub shows : Shows (versions_there c) floor h.puts
   pub waits : Waits c h
   pub under : Under c past h.puts
-  pub top : BelowAll (max floor (newest (versions_there c))) h.puts
   pub below : Below c
-  pub falls : Falls (versions_of h.puts)
-  pub decided : Decided h.puts
+  pub order : Falls (versions_of h.puts) × Decided h.puts
 
 under_more : (c : Option Cell) (past past' : ℕ) (puts : List Installed) → past ≤ past' → Under c past puts → Under c past' puts
 under_more None past past' puts le t = below_more past past' puts le t
@@ -62,96 +55,72 @@ waiting c k t h lock own w = subst (λ (u : TxnId). (pending_of c.lock ≡ (h.gi
 same_le : (n : ℕ) → n ≤ n
 same_le n = omega arith
 
+-- what a put, a higher floor, a cut and a collection of the whole object show
+
+shows_put : (w floor : ℕ) (vs : List Version) (v : Option Bytes) (i : Installed) (puts : List Installed) → i.stamp ≡ w → v ≡ i.value → BelowAll w puts → Shows vs floor puts → Shows ((w, v) ∷ vs) floor (i ∷ puts)
+shows_put w floor vs v i puts at is low t = record {
+  same = λ s le. subst (λ (x : Version). stamped_bytes (found_at s ((w, v) ∷ vs)) ≡ stamped_bytes (found_at s (x ∷ versions_of puts))) (λ k. (sym at k, is k))
+      (elim (nat_le w s) as (λ g. stamped_bytes (found_of (cond g (Some (w, v)) (version_at s vs))) ≡ stamped_bytes (found_of (cond g (Some (w, v)) (version_at s (versions_of puts))))) [ true ↦ refl | false ↦ t.same s le ]);
+  top = (omega arith, below_more w (max floor w) puts (omega arith) low);
+}
+
+shows_higher : (floor floor' : ℕ) (vs : List Version) (puts : List Installed) → floor ≤ floor' → Shows vs floor puts → Shows vs floor' puts
+shows_higher floor floor' vs puts more t = record {
+  same = λ s low. let l : floor ≤ s = omega arith in t.same s l;
+  top = below_more (max floor (newest vs)) (max floor' (newest vs)) puts (omega arith) t.top;
+}
+
+shows_cut : (floor : ℕ) (vs : List Version) (puts : List Installed) → Shows vs floor puts → Shows (cut floor vs) floor puts
+shows_cut floor vs puts t = record {
+  same = λ s low. ap (λ (x : Option Version). stamped_bytes (found_of x)) (cut_at floor s vs low) ∙ t.same s low;
+  top = subst (λ (n : ℕ). BelowAll (max floor n) puts) (sym (newest_cut floor vs)) t.top;
+}
+
+shows_gone : (floor : ℕ) (vs : List Version) (puts : List Installed) → is_gone floor vs ≡ true → Shows vs floor puts → Shows [] floor puts
+shows_gone floor vs puts gone t = record {
+  same = λ s low. sym (gone_at floor s vs low gone).0 ∙ t.same s low;
+  top = let n : newest vs ≤ floor = (gone_at floor floor vs (same_le floor) gone).1 in below_more (max floor (newest vs)) (max floor 0) puts (omega arith) t.top;
+}
+
 tells : (a : Addr) → Keeps a (λ e. Unit {0}) Tells
 tells a = record {
-  aside = λ c past past' floor h le t. record { same = t.same; waits = t.waits; under = under_more c past past' h.puts le t.under; top = t.top; below = t.below; falls = t.falls; decided = t.decided };
-  looked = λ c s past floor h free t. record {
-    same = t.same;
-    waits = t.waits;
-    under = below_more c.bound (max c.bound s) h.puts (omega arith) t.under;
-    top = t.top;
-    below = let b : newest c.versions ≤ c.bound = t.below in omega arith;
-    falls = t.falls;
-    decided = t.decided;
-  };
-  made = λ u r v placed past floor h making t. record {
-    same = t.same;
-    waits = gave u r (Some v) h (below_more (max floor 0) r h.puts (omega arith) t.top);
-    under = below_more past placed.bound h.puts making.over t.under;
-    top = t.top;
-    below = omega arith;
-    falls = t.falls;
-    decided = t.decided;
-  };
-  locked = λ u b r new given c past floor h locking t. record {
-    same = t.same;
-    waits = gave u r new h (below_more (max floor (newest c.versions)) r h.puts (omega arith) t.top);
-    under = t.under;
-    top = t.top;
-    below = t.below;
-    falls = t.falls;
-    decided = t.decided;
-  };
+  aside = λ c past past' floor h le t. record { shows = t.shows; waits = t.waits; under = under_more c past past' h.puts le t.under; below = t.below; order = t.order };
+  looked = λ c s past floor h free t.
+      let b : newest c.versions ≤ c.bound = t.below in
+      record { shows = t.shows; waits = t.waits; under = below_more c.bound (max c.bound s) h.puts (omega arith) t.under; below = omega arith; order = t.order };
+  made = λ u r v placed past floor h making t.
+      let waits = gave u r (Some v) h (below_more (max floor 0) r h.puts (omega arith) t.shows.top) in
+      record { shows = t.shows; waits = waits; under = below_more past placed.bound h.puts making.over t.under; below = omega arith; order = t.order };
+  locked = λ u b r new given c past floor h locking t.
+      let waits = gave u r new h (below_more (max floor (newest c.versions)) r h.puts (omega arith) t.shows.top) in
+      record { shows = t.shows; waits = waits; under = t.under; below = t.below; order = t.order };
   put = λ u b w c past floor h ending above t.
       let wait = waiting c ending.hold u h ending.lock ending.own t.waits in
-      record {
-        same = λ s le. elim (nat_le w s) as (λ g. stamped_bytes (found_of (cond g (Some (w, pending_of c.lock)) (version_at s c.versions))) ≡ stamped_bytes (found_of (cond g (Some (w, (h.given u).value)) (version_at s (versions_of h.puts)))))
-            [ true ↦ ap (λ (x : Option Bytes). stamped_bytes (found_of (Some (w, x)))) wait.0 | false ↦ t.same s le ];
-        waits = tt;
-        under = (omega arith, below_more c.bound w h.puts (omega arith) t.under);
-        top = (omega arith, below_more c.bound (max floor w) h.puts (omega arith) t.under);
-        below = same_le w;
-        falls = (let n : newest (versions_of h.puts) ≤ c.bound = newest_below c.bound h.puts t.under in omega arith, t.falls);
-        decided = (wait.1, t.decided);
-      };
-  unlocked = λ u b c past floor h ending t. record { same = t.same; waits = tt; under = t.under; top = t.top; below = t.below; falls = t.falls; decided = t.decided };
-  back = λ u b c past floor h ending none t. record {
-    same = λ s le. ap (λ (vs : List Version). stamped_bytes (found_at s vs)) (sym none) ∙ t.same s le;
-    waits = tt;
-    under = below_more c.bound (max past c.bound) h.puts (omega arith) t.under;
-    top = subst (λ (vs : List Version). BelowAll (max floor (newest vs)) h.puts) none t.top;
-    below = tt;
-    falls = t.falls;
-    decided = t.decided;
-  };
-  cut = λ c past past' floor floor' h le more t. record {
-    same = λ s low. let l : floor ≤ s = omega arith in ap (λ (x : Option Version). stamped_bytes (found_of x)) (cut_at floor' s c.versions low) ∙ t.same s l;
-    waits = t.waits;
-    under = t.under;
-    top = subst (λ (n : ℕ). BelowAll (max floor' n) h.puts) (sym (newest_cut floor' c.versions)) (below_more (max floor (newest c.versions)) (max floor' (newest c.versions)) h.puts (omega arith) t.top);
-    below = subst (λ (n : ℕ). n ≤ c.bound) (sym (newest_cut floor' c.versions)) t.below;
-    falls = t.falls;
-    decided = t.decided;
-  };
-  went = λ c past past' floor floor' h le more gone high t. record {
-    same = λ s low. let l : floor ≤ s = omega arith in sym (gone_at floor' s c.versions low (and_right (is_open c.lock) (is_gone floor' c.versions) gone)).0 ∙ t.same s l;
-    waits = tt;
-    under = below_more c.bound past' h.puts high t.under;
-    top = let n : newest c.versions ≤ floor' = (gone_at floor' floor' c.versions (same_le floor') (and_right (is_open c.lock) (is_gone floor' c.versions) gone)).1 in
-        below_more (max floor (newest c.versions)) (max floor' 0) h.puts (omega arith) t.top;
-    below = tt;
-    falls = t.falls;
-    decided = t.decided;
-  };
-  none = λ past past' floor floor' h le more t. record {
-    same = λ s low. let l : floor ≤ s = omega arith in t.same s l;
-    waits = tt;
-    under = below_more past past' h.puts le t.under;
-    top = below_more (max floor 0) (max floor' 0) h.puts (omega arith) t.top;
-    below = tt;
-    falls = t.falls;
-    decided = t.decided;
-  };
+      let low : BelowAll w h.puts = below_more c.bound w h.puts (omega arith) t.under in
+      let n : newest (versions_of h.puts) ≤ c.bound = newest_below c.bound h.puts t.under in
+      record { shows = shows_put w floor c.versions _ _ h.puts refl wait.0 low t.shows; waits = tt; under = (omega arith, low); below = same_le w; order = ((omega arith, t.order.0), (wait.1, t.order.1)) };
+  unlocked = λ u b c past floor h ending t. record { shows = t.shows; waits = tt; under = t.under; below = t.below; order = t.order };
+  back = λ u b c past floor h ending none t.
+      let shows : Shows [] floor h.puts = subst (λ (vs : List Version). Shows vs floor h.puts) none t.shows in
+      record { shows = shows; waits = tt; under = below_more c.bound (max past c.bound) h.puts (omega arith) t.under; below = tt; order = t.order };
+  cut = λ c past past' floor floor' h le more t.
+      let shows = shows_cut floor' c.versions h.puts (shows_higher floor floor' c.versions h.puts more t.shows) in
+      record { shows = shows; waits = t.waits; under = t.under; below = subst (λ (n : ℕ). n ≤ c.bound) (sym (newest_cut floor' c.versions)) t.below; order = t.order };
+  went = λ c past past' floor floor' h le more gone high t.
+      let shows = shows_gone floor' c.versions h.puts (and_parts (is_open c.lock) (is_gone floor' c.versions) gone).1 (shows_higher floor floor' c.versions h.puts more t.shows) in
+      record { shows = shows; waits = tt; under = below_more c.bound past' h.puts high t.under; below = tt; order = t.order };
+  none = λ past past' floor floor' h le more t.
+      record { shows = shows_higher floor floor' [] h.puts more t.shows; waits = tt; under = below_more past past' h.puts le t.under; below = tt; order = t.order };
 }
 
 tells_begun : (a : Addr) (stamp : ℕ) (heap : List (Addr × Bytes)) → 0 < stamp → Tells (loaded_cells stamp heap a) stamp stamp (record { puts = loaded_puts a stamp heap; given = λ t. gives 0 None })
-tells_begun a stamp [] low = record { same = λ s le. refl; waits = tt; under = tt; top = tt; below = tt; falls = tt; decided = tt }
-tells_begun a stamp (x ∷ xs) low = by (tells_begun a stamp xs low) (same_addr x.0 a) where
-  by : Tells (loaded_cells stamp xs a) stamp stamp (record { puts = loaded_puts a stamp xs; given = λ t. gives 0 None }) → (g : Bool)
-      → Tells (cond g (Some (loaded_cell stamp x.1)) (loaded_cells stamp xs a)) stamp stamp
-      (record { puts = cond g (record { by = nobody; read = 0; stamp = stamp; value = Some x.1 } ∷ []) (loaded_puts a stamp xs); given = λ t. gives 0 None })
-  by more true = record { same = λ s le. refl; waits = tt; under = (omega arith, tt); top = (omega arith, tt); below = same_le stamp; falls = (low, tt); decided = (tt, tt) }
-  by more false = more
+tells_begun a stamp [] low = record { shows = record { same = λ s le. refl; top = tt }; waits = tt; under = tt; below = tt; order = (tt, tt) }
+tells_begun a stamp (x ∷ xs) low =
+    elim (same_addr x.0 a) as (λ g. Tells (cond g (Some (loaded_cell stamp x.1)) (loaded_cells stamp xs a)) stamp stamp
+    (record { puts = cond g (record { by = nobody; read = 0; stamp = stamp; value = Some x.1 } ∷ []) (loaded_puts a stamp xs); given = λ t. gives 0 None })) [
+      | true ↦ record { shows = record { same = λ s le. refl; top = (omega arith, tt) }; waits = tt; under = (omega arith, tt); below = same_le stamp; order = ((low, tt), (tt, tt)) }
+      | false ↦ tells_begun a stamp xs low
+    ]
 
 -- lists
 
@@ -179,6 +148,7 @@ pub record Ends (a : Addr) (log : List Entry) : Type 0 where
   pub sound : Sound (replay log)
   pub tells : TellsAt a (replay log) (story a log)
 
+-- what a lawful list leads to, and its story
 pub ends : (a : Addr) (log : List Entry) → Lawful log → Ends a log
 ends a [] lawful = absurd lawful
 ends a (Made m ∷ es) lawful = record {

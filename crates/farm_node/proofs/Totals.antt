@@ -1,21 +1,14 @@
 -- Totals over all places of a node, where one address changes.
-use Rattle.std.proofs.Common.{◌≡◌, ◌⊎◌, Ordering, ℕ, zero, suc, ◌+◌, ◌<◌, ◌≤◌, max, cond, Bool, true, false, ◌&&◌, leb, List, [], ◌∷◌, Option, Some, None, sym, refl, ap, ◌∙◌, subst, inl, inr, arith}
-use Rattle.std.specs.BTreeMap.{BTreeMap, IsOrdered, is_at}
-use Rattle.std.specs.List.{AllByRecursion}
+use Rattle.farm_node.proofs.Common.{◌≡◌, ℕ, zero, suc, ◌+◌, ◌<◌, ◌≤◌, leb, max, cond, Bool, true, false, ◌&&◌, List, [], ◌∷◌, Option, Some, None, sym, refl, ap}
+use Rattle.farm_node.proofs.Common.{◌∙◌, subst, inl, inr, ⊎_elim, arith, Ordering, cond_both, cond-true, cond-false, both_ways, cases_Bool, false_from_ne_true}
+use Rattle.farm_node.proofs.Common.{cases_eq, is_at, AllByRecursion, is_eq, lookup, keys_of, Addr, IsAmong, width, same_addr, Rises, addr_order, IsBelow}
+use Rattle.farm_node.proofs.Common.{Version, cut, Cell, is_open, is_gone, goes, collected, past_collected, set_cell, places_in, places, total, past_over}
 use Rattle.std.specs.List.Sorted.{IsStrictlySortedBy}
-use Rattle.std.specs.Map.{lookup, keys_of}
-use Rattle.std.specs.Ordering.{is_eq}
 use Rattle.std.specs.declared.cmp.Ordering.TheVariants.{Less}
-use Rattle.std.proofs.lemmas.Bool.{false_from_ne_true, true≢false, cases_eq}
 use Rattle.std.proofs.lemmas.Map.Keys.{sorted_head, sorted_tail}
-use Rattle.a1_base.specs.declared.place.Addr.{Addr}
-use Rattle.object_region.specs.Occupancy.{width, addr_order, same_addr, IsBelow, Rises}
-use Rattle.a1_base.specs.Lists.{IsAmong}
-use Rattle.version_chain.specs.Versions.{Version, cut}
-use Rattle.farm_node.specs.Cell.{Cell, collected, past_collected, goes, is_gone, is_open}
-use Rattle.farm_node.specs.NodeState.{set_cell, places_in, places, total, past_over}
-use Rattle.farm_node.specs.State.{cells_of}
-use Rattle.farm_node.proofs.Addresses.{addr_eq, same_self}
+use Rattle.farm_node.proofs.Addresses.{addr_eq, same_self, same_turned}
+use Rattle.farm_node.proofs.Sound.{among_all}
+use Rattle.farm_node.proofs.Steps.{Reaches, reached_over}
 
 -- how often an address stands in a list
 
@@ -37,30 +30,25 @@ occurrences_outside : (a : Addr) (region n : ℕ) (more : List Addr) → (a.regi
 occurrences_outside a region zero more outside = refl
 occurrences_outside a region (suc n) more outside =
     let place : Addr = record { region = region; offset = n } in
-    let rest : occurrences a (places_in region n more) ≡ occurrences a more = occurrences_outside a region n more lower in
-    let none : one_at a place ≡ 0 = one_elsewhere a place (λ e. apart (ap (λ (b : Addr). b.region) e) (ap (λ (b : Addr). b.offset) e)) in
-    omega arith where
-      lower : a.region ≡ region → n ≤ a.offset
-      lower r = let above : suc n ≤ a.offset = outside r in omega arith
-
-      apart : a.region ≡ region → a.offset ≡ n → ⊥
-      apart r o = let above : suc n ≤ a.offset = outside r in omega arith
+    let rest : occurrences a (places_in region n more) ≡ occurrences a more = occurrences_outside a region n more (λ r. let above : suc n ≤ a.offset = outside r in omega arith) in
+    let apart = λ (e : a ≡ place). let above : suc n ≤ a.offset = outside (λ i. (e i).region) in let same : a.offset ≡ n = (λ i. (e i).offset) in let r : ⊥ = omega arith in r in
+    let none : one_at a place ≡ 0 = one_elsewhere a place apart in
+    omega arith
 
 occurrences_inside : (a : Addr) (n : ℕ) (more : List Addr) → a.offset < n → occurrences a (places_in a.region n more) ≡ 1 + occurrences a more
 occurrences_inside a zero more low = absurd (omega arith)
-occurrences_inside a (suc n) more low = at (cases_eq a.offset n) (λ below. occurrences_inside a n more below) where
-  at : (a.offset ≡ n) ⊎ (a.offset ≡ n → ⊥) → (a.offset < n → occurrences a (places_in a.region n more) ≡ 1 + occurrences a more)
-      → occurrences a (places_in a.region (suc n) more) ≡ 1 + occurrences a more
-  at (inl o) inside =
-      let place : Addr = record { region = a.region; offset = n } in
-      let here : one_at a place ≡ 1 = one_here a place (λ i. record { region = a.region; offset = o i }) in
-      let rest : occurrences a (places_in a.region n more) ≡ occurrences a more = occurrences_outside a a.region n more (λ r. omega arith) in
-      omega arith
-  at (inr apart) inside =
-      let place : Addr = record { region = a.region; offset = n } in
-      let none : one_at a place ≡ 0 = one_elsewhere a place (λ e. apart (ap (λ (b : Addr). b.offset) e)) in
-      let rest : occurrences a (places_in a.region n more) ≡ 1 + occurrences a more = inside (omega (arith, apart)) in
-      omega arith
+occurrences_inside a (suc n) more low =
+    let place : Addr = record { region = a.region; offset = n } in
+    elim (cases_eq a.offset n) as (λ z. one_at a place + occurrences a (places_in a.region n more) ≡ 1 + occurrences a more) [
+      | inl o ↦
+          let here : one_at a place ≡ 1 = one_here a place (λ i. record { region = a.region; offset = o i }) in
+          let rest : occurrences a (places_in a.region n more) ≡ occurrences a more = occurrences_outside a a.region n more (λ r. omega arith) in
+          omega arith
+      | inr apart ↦
+          let none : one_at a place ≡ 0 = one_elsewhere a place (λ e. apart (λ i. (e i).offset)) in
+          let rest : occurrences a (places_in a.region n more) ≡ 1 + occurrences a more = occurrences_inside a n more (omega (arith, apart)) in
+          omega arith
+    ]
 
 occurrences_below : (a : Addr) (regions : List ℕ) → IsBelow a.region regions → occurrences a (places regions) ≡ 0
 occurrences_below a [] below = refl
@@ -116,25 +104,17 @@ total_set count regions a c cells rises there low = total_with count a c cells (
 
 past_is_max : (floor past : ℕ) (o : Option Cell) → past_collected floor o past ≡ max (past_collected floor o 0) past
 past_is_max floor past None = omega arith
-past_is_max floor past (Some c) = at (goes floor c) where
-  at : (g : Bool) → cond g (max c.bound past) past ≡ max (cond g (max c.bound 0) 0) past
-  at true = omega arith
-  at false = omega arith
+past_is_max floor past (Some c) = elim (goes floor c) as (λ g. cond g (max c.bound past) past ≡ max (cond g (max c.bound 0) 0) past) [ true ↦ omega arith | false ↦ omega arith ]
 
 pub gone_cut : (floor : ℕ) (vs : List Version) → is_gone floor (cut floor vs) ≡ is_gone floor vs
 gone_cut floor [] = refl
-gone_cut floor (v ∷ vs) = at (leb v.0 floor) where
-  at : (g : Bool) → is_gone floor (cond g (v ∷ []) (v ∷ cut floor vs)) ≡ is_gone floor (v ∷ vs)
-  at true = refl
-  at false = refl
+gone_cut floor (v ∷ vs) = cond_both (leb v.0 floor) _ _ (λ l. is_gone floor l ≡ is_gone floor (v ∷ vs)) (λ is. refl) (λ is. refl)
 
 -- a second collection takes nothing whole
 collected_once : (floor : ℕ) (o : Option Cell) → past_collected floor (collected floor o) 0 ≡ 0
 collected_once floor None = refl
-collected_once floor (Some c) = at (goes floor c) refl where
-  at : (g : Bool) → goes floor c ≡ g → past_collected floor (cond g None (Some (record c { versions = cut floor c.versions }))) 0 ≡ 0
-  at true is = refl
-  at false is = ap (λ (g : Bool). cond g (max c.bound 0) 0) (ap (λ (g : Bool). is_open c.lock && g) (gone_cut floor c.versions) ∙ is)
+collected_once floor (Some c) = cond_both (goes floor c) _ _ (λ o. past_collected floor o 0 ≡ 0) (λ is. refl)
+    (λ is. cond-false _ _ _ (ap (λ (g : Bool). is_open c.lock && g) (gone_cut floor c.versions) ∙ is))
 
 module _ (floor : ℕ) (a : Addr) (cells : Addr → Option Cell) (past : ℕ) where
   past_moved : (all : List Addr) → past_over floor (set_cell a (collected floor (cells a)) cells) all (past_collected floor (cells a) past) ≡ max (past_collected floor (cells a) 0) (past_over floor cells all past)
@@ -147,23 +127,15 @@ module _ (floor : ℕ) (a : Addr) (cells : Addr → Option Cell) (past : ℕ) wh
         omega (arith, collected_once floor (cells a), past_is_max floor later (collected floor (cells a)), past_is_max floor (past_over floor cells bs past) (cells b))
     at false is later rest = omega (arith, past_is_max floor later (cells b), past_is_max floor (past_over floor cells bs past) (cells b))
 
-  past_reached : (all : List Addr) → occurrences a all ≡ 1 → past_collected floor (cells a) 0 ≤ past_over floor cells all past
-  past_reached [] once = absurd (omega arith)
-  past_reached (b ∷ bs) once = at (same_addr a b) refl once (λ n. past_reached bs n) where
-    at : (g : Bool) → same_addr a b ≡ g → cond g 1 0 + occurrences a bs ≡ 1 → (occurrences a bs ≡ 1 → past_collected floor (cells a) 0 ≤ past_over floor cells bs past)
-        → past_collected floor (cells a) 0 ≤ past_collected floor (cells b) (past_over floor cells bs past)
-    at true is once rest =
-        let same : past_collected floor (cells a) 0 ≡ past_collected floor (cells b) 0 = ap (λ (z : Addr). past_collected floor (cells z) 0) (addr_eq a b is) in
-        omega (arith, past_is_max floor (past_over floor cells bs past) (cells b))
-    at false is once rest =
-        let reached : past_collected floor (cells a) 0 ≤ past_over floor cells bs past = rest (omega arith) in
-        omega (arith, past_is_max floor (past_over floor cells bs past) (cells b))
+past_below : (floor : ℕ) (c : Option Cell) (n : ℕ) → Reaches floor c n → past_collected floor c 0 ≤ n
+past_below floor None n reach = omega arith
+past_below floor (Some c) n reach = cond_both (goes floor c) _ _ (λ x. x ≤ n) (λ is. let b : c.bound ≤ n = reach is in omega arith) (λ is. omega arith)
 
 -- what was collected at one address raises past no more
 pub past_over_set : (floor : ℕ) (regions : List ℕ) (a : Addr) (cells : Addr → Option Cell) (past : ℕ) → Rises regions → IsAmong a.region regions → a.offset < width
     → past_over floor (set_cell a (collected floor (cells a)) cells) (places regions) (past_collected floor (cells a) past) ≡ past_over floor cells (places regions) past
 past_over_set floor regions a cells past rises there low =
-    omega (arith, past_moved floor a cells past (places regions), past_reached floor a cells past (places regions) (occurs_once a regions rises there low))
+    omega (arith, past_moved floor a cells past (places regions), past_below floor (cells a) _ (reached_over floor cells (places regions) past a (among_all a regions (there, low))))
 
 -- the total over all places is the sum over the entries of the map
 abbrev pub sum_of : (Cell → ℕ) → List (Addr × Cell) → ℕ
@@ -178,18 +150,15 @@ total_nothing : (count : Option Cell → ℕ) (all : List Addr) → count None �
 total_nothing count [] none = refl
 total_nothing count (a ∷ rest) none = let others : total count (λ a. None) rest ≡ 0 = total_nothing count rest none in omega arith
 
-same_turned : (a b : Addr) → same_addr a b ≡ same_addr b a
-same_turned a b = at (same_addr a b) refl where
-  turned : (x y : Addr) → same_addr x y ≡ true → same_addr y x ≡ true
-  turned x y is = ap (λ (z : Addr). same_addr z x) (sym (addr_eq x y is)) ∙ same_self x
-
-  at : (g : Bool) → same_addr a b ≡ g → g ≡ same_addr b a
-  at true is = sym (turned a b is)
-  at false is = sym (false_from_ne_true (same_addr b a) (λ back. true≢false (sym (turned b a back) ∙ is)))
+same_both : (a b : Addr) → same_addr a b ≡ same_addr b a
+same_both a b = elim (cases_Bool (same_addr a b)) as (λ z. same_addr a b ≡ same_addr b a) [
+  | inl is ↦ is ∙ sym (same_turned a b is)
+  | inr apart ↦ apart ∙ sym (false_from_ne_true (same_addr b a) (λ back. both_ways (same_addr a b) apart (same_turned b a back)))
+]
 
 -- the first entry is a change of what the others give
 cells_cons : (e : Addr × Cell) (es : List (Addr × Cell)) → cells_in (e ∷ es) ≡ set_cell e.0 (Some e.1) (cells_in es)
-cells_cons e es = λ i a. ap (λ (g : Bool). cond g (Some e.1) (cells_in es a)) (same_turned a e.0) i
+cells_cons e es = λ i a. ap (λ (g : Bool). cond g (Some e.1) (cells_in es a)) (same_both a e.0) i
 
 -- the key of the first entry is not among the others
 absent_behind : (a : Addr) (es : List (Addr × Cell)) → AllByRecursion (λ b. addr_order a b ≡ Less) (keys_of es) → cells_in es a ≡ None
@@ -197,7 +166,7 @@ absent_behind a [] behind = refl
 absent_behind a (e ∷ es) behind = ap (λ (o : Ordering). cond (is_eq o) (Some e.1) (cells_in es a)) behind.0 ∙ absent_behind a es behind.1
 
 module _ (count : Option Cell → ℕ) (regions : List ℕ) (none : count None ≡ 0) (rises : Rises regions) where
-  total_listed : (es : List (Addr × Cell)) → IsStrictlySortedBy addr_order (keys_of es)
+  pub total_listed : (es : List (Addr × Cell)) → IsStrictlySortedBy addr_order (keys_of es)
       → ((a : Addr) (c : Cell) → cells_in es a ≡ Some c → IsAmong a.region regions × (a.offset < width)) → total count (cells_in es) (places regions) ≡ sum_of (λ c. count (Some c)) es
   total_listed [] ordered placed = total_nothing count (places regions) none
   total_listed (e ∷ es) ordered placed =
@@ -207,13 +176,8 @@ module _ (count : Option Cell → ℕ) (regions : List ℕ) (none : count None �
       = total_set count regions e.0 (Some e.1) (cells_in es) rises here.0 here.1 in
       let new : count (cells_in es e.0) ≡ 0 = ap count (absent_behind e.0 es (sorted_head addr_order e.0 (keys_of es) ordered)) ∙ none in
       let others : total count (cells_in es) (places regions) ≡ sum_of (λ c. count (Some c)) es
-      = total_listed es (sorted_tail addr_order e.0 (keys_of es) ordered) (λ a c there. behind a c there (same_addr a e.0) refl) in
+      = total_listed es (sorted_tail addr_order e.0 (keys_of es) ordered) behind in
       omega arith where
-        behind : (a : Addr) (c : Cell) → cells_in es a ≡ Some c → (g : Bool) → same_addr a e.0 ≡ g → IsAmong a.region regions × (a.offset < width)
-        behind a c there true is = placed a e.1 (ap (λ (g : Bool). cond g (Some e.1) (cells_in es a)) is)
-        behind a c there false is = placed a c (ap (λ (g : Bool). cond g (Some e.1) (cells_in es a)) is ∙ there)
-
-pub total_entries : (count : Option Cell → ℕ) (objects : BTreeMap Addr Cell) (regions : List ℕ) → count None ≡ 0 → IsOrdered addr_order objects → Rises regions
-    → ((a : Addr) (c : Cell) → cells_of objects a ≡ Some c → IsAmong a.region regions × (a.offset < width))
-    → total count (cells_of objects) (places regions) ≡ sum_of (λ c. count (Some c)) objects.entries
-total_entries count objects regions none ordered rises placed = total_listed count regions none rises objects.entries ordered placed
+        behind : (a : Addr) (c : Cell) → cells_in es a ≡ Some c → IsAmong a.region regions × (a.offset < width)
+        behind a c there = ⊎_elim (λ is. placed a e.1 (cond-true (same_addr a e.0) (Some e.1) (cells_in es a) is))
+            (λ other. placed a c (cond-false (same_addr a e.0) (Some e.1) (cells_in es a) other ∙ there)) (cases_Bool (same_addr a e.0))

@@ -22,6 +22,7 @@ abbrev pub AddsIfMade : NodeState → Option Entry → NodeState → Type 0
 AddsIfMade p None q = q ≡ p
 AddsIfMade p (Some e) q = Adds p e q
 
+-- a read makes an entry, or none for want of memory
 abbrev pub read_entry : ℕ → Addr → ℕ → Result Found ReadFault → Option Entry
 read_entry k a s (Ok found) = Some (Read k a s (Ok found))
 read_entry k a s (Err (ReadHeld by)) = Some (Read k a s (Err by))
@@ -35,6 +36,7 @@ abbrev pub fault_of_check : CheckFault → LockFault
 fault_of_check (Held by) = LockHeld by
 fault_of_check (Changed seen now) = LockChanged seen now
 
+-- a lock that was asked for
 abbrev pub lock_entry : TxnId → Addr → ℕ → Option Bytes → Result Locked LockFault → Option Entry
 lock_entry t a r new (Ok locked) = Some (Lock t a r new (Ok locked))
 lock_entry t a r new (Err (LockHeld by)) = Some (Lock t a r new (Err (Held by)))

@@ -8,6 +8,7 @@ use Rattle.farm_node.specs.declared.entry.Locked.{Locked}
 use Rattle.farm_node.specs.declared.entry.CheckFault.{CheckFault}
 use Rattle.farm_node.specs.declared.entry.CheckFault.TheVariants.{Held, Changed}
 
+-- a value is a list of bytes
 abbrev pub Bytes : Type 0
 Bytes = List ℕ
 
@@ -18,6 +19,7 @@ pub record Cell : Type 0 where
   pub bound : ℕ
   pub lock : Option Hold
 
+-- whether nobody has the lock
 abbrev pub is_open : Option Hold → Bool
 is_open None = true
 is_open (Some h) = false
@@ -28,6 +30,7 @@ pub record IsCell (chain : Versions) (bound : ℕ) (lock : Option Hold) : Type 0
   pub below : newest chain.versions ≤ bound
   pub room : is_open lock ≡ false → chain.reserved ≡ true
 
+-- whether two transactions are one
 abbrev pub same_txn : TxnId → TxnId → Bool
 same_txn t u = (t.actor == u.actor) && (t.number == u.number)
 
@@ -51,10 +54,12 @@ read_answer s (Some c) = elim c.lock as (λ _. Result Found TxnId) [
 
 -- what a read or a check at s leaves: a bound of at least s, or a past of at least s where there is no object
 
+-- what a look at s leaves of an object
 abbrev pub raised_to : ℕ → Option Cell → Option Cell
 raised_to s None = None
 raised_to s (Some c) = Some (record c { bound = max c.bound s })
 
+-- and what it leaves of past
 abbrev pub past_raised : ℕ → Option Cell → ℕ → ℕ
 past_raised s None past = max past s
 past_raised s (Some c) past = past
@@ -69,13 +74,15 @@ made_by t bytes bound = record { versions = []; bound = bound; lock = Some (reco
 abbrev pub loaded_cell : ℕ → Bytes → Cell
 loaded_cell stamp bytes = record { versions = (stamp, Some bytes) ∷ []; bound = stamp; lock = None }
 
+-- a lock that is given
 abbrev pub locked_by : TxnId → Option Bytes → Option Cell → Option Cell
 locked_by t new None = None
 locked_by t new (Some c) = Some (record c { lock = Some (record { by = t; pending = new }) })
 
 -- Changed where the newest version is above r, else what the lock or the check gives
 abbrev pub unless_changed : {X : Type 0} → ℕ → Cell → X → Result X CheckFault
-unless_changed r c x = cond (nat_lt r (newest c.versions)) (Err (Changed (found_at r c.versions).stamp (newest c.versions))) (Ok x)
+unless_changed r c x =
+    cond (nat_lt r (newest c.versions)) (Err (Changed (found_at r c.versions).stamp (newest c.versions))) (Ok x)
 
 abbrev pub lock_given : ℕ → ℕ → Locked
 lock_given seen bound = record { seen = seen; bound = bound }
@@ -92,7 +99,10 @@ lock_answer t r (Some c) = elim c.lock as (λ _. Result Locked CheckFault) [
 -- a check of what the transaction does not hold: Held where another does, else Changed as above, else the same
 abbrev pub check_answer : ℕ → Option Cell → Result (Unit {0}) CheckFault
 check_answer r None = Ok tt
-check_answer r (Some c) = elim c.lock as (λ _. Result (Unit {0}) CheckFault) [ None ↦ unless_changed r c tt | Some h ↦ Err (Held h.by) ]
+check_answer r (Some c) = elim c.lock as (λ _. Result (Unit {0}) CheckFault) [
+  | None ↦ unless_changed r c tt
+  | Some h ↦ Err (Held h.by)
+]
 
 abbrev pub pending_of : Option Hold → Option Bytes
 pending_of None = None
@@ -105,10 +115,12 @@ installed w (Some c) = Some (record { versions = (w, pending_of c.lock) ∷ c.ve
 
 -- an unlock: an object that has no version is given back, and past rises to its bound
 
+-- what an unlock leaves
 abbrev pub released : Option Cell → Option Cell
 released None = None
 released (Some c) = elim c.versions as (λ _. Option Cell) [ [] ↦ None | v ∷ vs ↦ Some (record c { lock = None }) ]
 
+-- and of past
 abbrev pub past_released : Option Cell → ℕ → ℕ
 past_released None past = past
 past_released (Some c) past = elim c.versions as (λ _. ℕ) [ [] ↦ max past c.bound | v ∷ vs ↦ past ]
@@ -141,6 +153,7 @@ is_single (v ∷ u ∷ vs) = false
 abbrev pub is_settled : Cell → Bool
 is_settled c = is_open c.lock && is_single c.versions
 
+-- what a collection at the floor leaves
 abbrev pub collected : ℕ → Option Cell → Option Cell
 collected floor None = None
 collected floor (Some c) = cond (goes floor c) None (Some (record c { versions = cut floor c.versions }))

@@ -18,13 +18,15 @@ abbrev pub versions_there : Option Cell → List Version
 versions_there None = []
 versions_there (Some c) = c.versions
 
+-- and at an address of the state
 abbrev pub versions_at : NodeState → Addr → List Version
 versions_at p a = versions_there (p.cells a)
 
 pub record ReadsHold : Type 0 where
   -- what a read answered is the value at its stamp in each longer list
   pub read : (before rest : List Entry) (k : ℕ) (a : Addr) (s : ℕ) (found : Found)
-      → Lawful (before ++ Read k a s (Ok found) ∷ rest) → value_at (before ++ Read k a s (Ok found) ∷ rest) a s ≡ stamped_bytes found
+      → Lawful (before ++ Read k a s (Ok found) ∷ rest)
+      → value_at (before ++ Read k a s (Ok found) ∷ rest) a s ≡ stamped_bytes found
   -- where an object was made, nothing is there at its transaction's read stamp
   pub made : (before rest : List Entry) (t : TxnId) (r : ℕ) (v : Bytes) (placed : Placed)
       → Lawful (before ++ Alloc t r v placed ∷ rest) → value_at (before ++ Alloc t r v placed ∷ rest) placed.at r ≡ None
@@ -61,8 +63,10 @@ Decides t a r w e rest = ⊥
 pub record MineDecides : Type 0 where
   -- what t decides at r and w, no other puts above r and at most w
   pub spared : (before rest : List Entry) (e : Entry) (t : TxnId) (a : Addr) (r w : ℕ)
-      → Lawful (before ++ e ∷ rest) → AllByRecursion (PutsAt t w) (before ++ e ∷ rest) → Decides t a r w e rest → AllByRecursion (Spares t a r w) (before ++ e ∷ rest)
+      → Lawful (before ++ e ∷ rest) → AllByRecursion (PutsAt t w) (before ++ e ∷ rest) → Decides t a r w e rest
+      → AllByRecursion (Spares t a r w) (before ++ e ∷ rest)
   -- what a put installs is what its own transaction last gave
   pub own : (before rest : List Entry) (t : TxnId) (a : Addr) (w : ℕ)
       → Lawful (before ++ Put t a w ∷ rest)
-      → (c : Cell) × (h : Hold) × ((replay before).cells a ≡ Some c) × (c.lock ≡ Some h) × (h.by ≡ t) × (h.pending ≡ ((story a before).given t).value)
+      → (c : Cell) × (h : Hold) × ((replay before).cells a ≡ Some c) × (c.lock ≡ Some h) × (h.by ≡ t)
+      × (h.pending ≡ ((story a before).given t).value)

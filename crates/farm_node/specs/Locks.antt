@@ -38,16 +38,22 @@ BlamesPut r now a e = ⊥
 
 pub record LocksHold : Type 0 where
   -- the newest version is at most the bound
-  pub below : (log : List Entry) (a : Addr) (c : Cell) → Lawful log → (replay log).cells a ≡ Some c → newest c.versions ≤ c.bound
+  pub below : (log : List Entry) (a : Addr) (c : Cell) → Lawful log → (replay log).cells a ≡ Some c
+      → newest c.versions ≤ c.bound
   -- through entries of others a held address keeps its lock with the value that waits, its bound and its newest version
-  pub stays : (before rest : List Entry) (a : Addr) (c : Cell) (h : Hold) → Lawful (before ++ rest) → (replay before).cells a ≡ Some c → c.lock ≡ Some h → AllByRecursion (IsOther h.by.actor) rest
-      → (d : Cell) × ((replay (before ++ rest)).cells a ≡ Some d) × (d.lock ≡ Some h) × (d.bound ≡ c.bound) × (newest d.versions ≡ newest c.versions)
+  pub stays : (before rest : List Entry) (a : Addr) (c : Cell) (h : Hold) → Lawful (before ++ rest)
+      → (replay before).cells a ≡ Some c → c.lock ≡ Some h → AllByRecursion (IsOther h.by.actor) rest
+      → (d : Cell) × ((replay (before ++ rest)).cells a ≡ Some d) × (d.lock ≡ Some h) × (d.bound ≡ c.bound)
+      × (newest d.versions ≡ newest c.versions)
   -- through entries of others a pin stays
-  pub pin : (before rest : List Entry) (k : ℕ) → Lawful (before ++ rest) → AllByRecursion (IsOther k) rest → (replay (before ++ rest)).pins k ≡ (replay before).pins k
+  pub pin : (before rest : List Entry) (k : ℕ) → Lawful (before ++ rest) → AllByRecursion (IsOther k) rest
+      → (replay (before ++ rest)).pins k ≡ (replay before).pins k
   -- who is blamed as the holder took the lock by an entry of its own
-  pub holder : (before rest : List Entry) (e : Entry) (t : TxnId) (a : Addr) → Lawful (before ++ e ∷ rest) → BlamesHolder t a e → (d : Entry) × IsAmong d before × Takes t a d
+  pub holder : (before rest : List Entry) (e : Entry) (t : TxnId) (a : Addr) → Lawful (before ++ e ∷ rest)
+      → BlamesHolder t a e → (d : Entry) × IsAmong d before × Takes t a d
   -- the stamp that is blamed is that of an actor's put, above the read stamp
-  pub change : (before rest : List Entry) (e : Entry) (r now : ℕ) (a : Addr) → Lawful (before ++ e ∷ rest) → BlamesPut r now a e
+  pub change : (before rest : List Entry) (e : Entry) (r now : ℕ) (a : Addr) → Lawful (before ++ e ∷ rest)
+      → BlamesPut r now a e
       → (i : Installed) × IsAmong i (story a before).puts × (i.stamp ≡ now) × (r < now) × (0 < i.by.actor)
 
 abbrev pub StampsBelow : List Version → Type 0
@@ -67,7 +73,8 @@ AnswersStamps e = Unit {0}
 
 -- every stamp of a state, and every one that a lawful entry answers, is below 2^62
 pub record RangesHold : Type 0 where
-  pub bound : (log : List Entry) (a : Addr) (c : Cell) → Lawful log → (replay log).cells a ≡ Some c → IsStamp c.bound × StampsBelow c.versions
+  pub bound : (log : List Entry) (a : Addr) (c : Cell) → Lawful log → (replay log).cells a ≡ Some c
+      → IsStamp c.bound × StampsBelow c.versions
   pub past : (log : List Entry) → Lawful log → IsStamp (replay log).past × IsStamp (replay log).floor
   pub pin : (log : List Entry) (k x : ℕ) → Lawful log → (replay log).pins k ≡ Some x → IsStamp x
   pub answered : (before rest : List Entry) (e : Entry) → Lawful (before ++ e ∷ rest) → AnswersStamps e

@@ -30,6 +30,7 @@ pub record NodeState : Type 0 where
 abbrev pub occupancy : NodeState → Occupancy
 occupancy p = record { node = p.node; nodes = p.nodes; regions = p.regions; taken = λ a. is_some (p.cells a) }
 
+-- the cells with this one at b
 abbrev pub set_cell : Addr → Option Cell → (Addr → Option Cell) → Addr → Option Cell
 set_cell b c cells a = cond (same_addr b a) c (cells a)
 
@@ -42,6 +43,7 @@ abbrev pub places_in : ℕ → ℕ → List Addr → List Addr
 places_in region zero more = more
 places_in region (suc n) more = record { region = region; offset = n } ∷ places_in region n more
 
+-- of all regions
 abbrev pub places : List ℕ → List Addr
 places [] = []
 places (r ∷ rs) = places_in r width (places rs)
@@ -59,6 +61,7 @@ version_count p = total versions_in p.cells (places p.regions)
 
 -- collection
 
+-- the lesser of a pin, where there is one, and a stamp
 abbrev pub lesser : Option ℕ → ℕ → ℕ
 lesser None least = least
 lesser (Some pin) least = min pin least
@@ -81,7 +84,11 @@ past_over floor cells [] past = past
 past_over floor cells (a ∷ rest) past = past_collected floor (cells a) (past_over floor cells rest past)
 
 abbrev pub after_collect : ℕ → NodeState → NodeState
-after_collect floor p = record p { cells = cells_collected floor p.cells; past = past_over floor p.cells (places p.regions) p.past; floor = floor }
+after_collect floor p = record p {
+  cells = cells_collected floor p.cells;
+  past = past_over floor p.cells (places p.regions) p.past;
+  floor = floor;
+}
 
 -- a count of versions stands still at the end of its type
 abbrev pub counted : ℕ → ℕ
@@ -92,7 +99,11 @@ abbrev pub collect_answer : NodeState → ℕ → Collected
 collect_answer p f =
     let floor = new_floor p f in
     let later = after_collect floor p in
-    record { floor = floor; versions = counted (version_count p - version_count later); objects = object_count p - object_count later }
+    record {
+      floor = floor;
+      versions = counted (version_count p - version_count later);
+      objects = object_count p - object_count later;
+    }
 
 -- conditions
 
@@ -121,13 +132,16 @@ MayLock p t a r = (HasValue p a r × (HeldBy p t a → ⊥)) ⊎ HeldNew p t a
 abbrev pub MayPut : NodeState → TxnId → Addr → ℕ → Type 0
 MayPut p t a w = (c : Cell) × (h : Hold) × (p.cells a ≡ Some c) × (c.lock ≡ Some h) × (h.by ≡ t) × (c.bound < w)
 
+-- a lock may be asked for, and its answer is the one that is due
 pub record FitsLock (p : NodeState) (t : TxnId) (a : Addr) (r : ℕ) (answer : Result Locked CheckFault) : Type 0 where
   pub pinned : PinnedBy p t.actor r
   pub stamp : IsStamp r
   pub may : MayLock p t a r
   pub due : answer ≡ lock_answer t r (p.cells a)
 
-pub record FitsCheck (p : NodeState) (t : TxnId) (a : Addr) (r w : ℕ) (answer : Result (Unit {0}) CheckFault) : Type 0 where
+-- and so may a check
+pub record FitsCheck (p : NodeState) (t : TxnId) (a : Addr) (r w : ℕ) (answer : Result (Unit {0}) CheckFault)
+    : Type 0 where
   pub pinned : PinnedBy p t.actor r
   pub stamps : IsStamp r × IsStamp w
   pub not_own : HeldBy p t a → ⊥
@@ -139,7 +153,8 @@ Fits p (Made start) = ⊥
 Fits p (Open k c x) = (0 < k) × (k ≤ p.actors) × (p.pins k ≡ None) × IsStamp c × (x ≡ max c p.floor)
 Fits p (Shut k) = (x : ℕ) × (p.pins k ≡ Some x)
 Fits p (Read k a s answer) = PinnedBy p k s × IsStamp s × (answer ≡ read_answer s (p.cells a))
-Fits p (Alloc t r v placed) = PinnedBy p t.actor r × IsStamp r × LeastFree (occupancy p) placed.at × (placed.bound ≡ max p.past r)
+Fits p (Alloc t r v placed) =
+    PinnedBy p t.actor r × IsStamp r × LeastFree (occupancy p) placed.at × (placed.bound ≡ max p.past r)
 Fits p (Lock t a r new answer) = FitsLock p t a r answer
 Fits p (Check t a r w answer) = FitsCheck p t a r w answer
 Fits p (Put t a w) = MayPut p t a w × IsStamp w
@@ -148,7 +163,8 @@ Fits p (Collect k f removed) = (0 < k) × IsStamp f × (removed ≡ collect_answ
 
 -- an address was read, or checked and found the same, at s
 abbrev pub looked_at : Addr → ℕ → NodeState → NodeState
-looked_at a s p = record p { cells = set_cell a (raised_to s (p.cells a)) p.cells; past = past_raised s (p.cells a) p.past }
+looked_at a s p =
+    record p { cells = set_cell a (raised_to s (p.cells a)) p.cells; past = past_raised s (p.cells a) p.past }
 
 -- the state that an entry leaves
 abbrev pub after : NodeState → Entry → NodeState
@@ -157,17 +173,22 @@ after p (Open k c x) = record p { pins = set_pin k (Some x) p.pins }
 after p (Shut k) = record p { pins = set_pin k None p.pins }
 after p (Read k a s (Ok found)) = looked_at a s p
 after p (Read k a s (Err by)) = p
-after p (Alloc t r v placed) = record p { cells = set_cell placed.at (Some (made_by t v placed.bound)) p.cells; regions = add_region placed.at.region p.regions }
+after p (Alloc t r v placed) = record p {
+  cells = set_cell placed.at (Some (made_by t v placed.bound)) p.cells;
+  regions = add_region placed.at.region p.regions;
+}
 after p (Lock t a r new (Ok locked)) = record p { cells = set_cell a (locked_by t new (p.cells a)) p.cells }
 after p (Lock t a r new (Err fault)) = p
 after p (Check t a r w (Ok same)) = looked_at a w p
 after p (Check t a r w (Err fault)) = p
 after p (Put t a w) = record p { cells = set_cell a (installed w (p.cells a)) p.cells }
-after p (Unlock t a) = record p { cells = set_cell a (released (p.cells a)) p.cells; past = past_released (p.cells a) p.past }
+after p (Unlock t a) =
+    record p { cells = set_cell a (released (p.cells a)) p.cells; past = past_released (p.cells a) p.past }
 after p (Collect k f removed) = after_collect (new_floor p f) p
 
 -- the beginning
 
+-- the loaded objects at their addresses
 abbrev pub loaded_cells : ℕ → List (Addr × Bytes) → Addr → Option Cell
 loaded_cells stamp [] a = None
 loaded_cells stamp (x ∷ xs) a = cond (same_addr x.0 a) (Some (loaded_cell stamp x.1)) (loaded_cells stamp xs a)
@@ -176,6 +197,7 @@ abbrev pub loaded_regions : List (Addr × Bytes) → List ℕ
 loaded_regions [] = []
 loaded_regions (x ∷ xs) = add_region x.0.region (loaded_regions xs)
 
+-- the state that a node begins with
 abbrev pub begun : Start → NodeState
 begun m = record {
   cells = loaded_cells m.stamp m.heap;
@@ -193,23 +215,28 @@ abbrev pub Loads : Start → List (Addr × Bytes) → Type 0
 Loads m [] = Unit {0}
 Loads m (x ∷ xs) = IsPlace (occupancy (begun m)) x.0 × (loaded_cells m.stamp xs x.0 ≡ None) × Loads m xs
 
+-- a node can begin so
 abbrev pub IsStart : Start → Type 0
 IsStart m = (m.node < m.nodes) × (m.nodes ≤ NODE_LIMIT) × (0 < m.stamp) × IsStamp m.stamp × Loads m m.heap
 
 -- the replay of a list, and the lists that are lawful
 
+-- the state that entries lead to
 abbrev pub replay_from : NodeState → List Entry → NodeState
 replay_from p [] = p
 replay_from p (e ∷ es) = replay_from (after p e) es
 
+-- each entry meets its condition in the state behind those before it
 abbrev pub LawfulFrom : NodeState → List Entry → Type 0
 LawfulFrom p [] = Unit {0}
 LawfulFrom p (e ∷ es) = Fits p e × LawfulFrom (after p e) es
 
 -- the state of a list that is none of a node
 abbrev pub nowhere : NodeState
-nowhere = record { cells = λ a. None; regions = []; pins = λ k. None; past = 0; floor = 0; node = 0; nodes = 1; actors = 0 }
+nowhere =
+    record { cells = λ a. None; regions = []; pins = λ k. None; past = 0; floor = 0; node = 0; nodes = 1; actors = 0 }
 
+-- the state that a list leads to
 abbrev pub replay : List Entry → NodeState
 replay [] = nowhere
 replay (Made m ∷ es) = replay_from (begun m) es

@@ -17,7 +17,9 @@ with_heap m (x ∷ xs) = with_heap (record m { heap = x ∷ m.heap }) xs
 
 pub record ListsGoOn : Type 0 where
   -- a call that adds one lawful entry leads from a list to that list with the entry behind it
-  pub more : (old new : Node) (log : List Entry) (e : Entry) → StandsFor old log → Adds (plain_of old) e (plain_of new) → StandsFor new (log ++ e ∷ [])
+  pub more : (old new : Node) (log : List Entry) (e : Entry) → StandsFor old log → Adds (plain_of old) e (plain_of new)
+      → StandsFor new (log ++ e ∷ [])
   -- before any event, loading changes what the first entry says was loaded
-  pub loads : (old new : Node) (m : Start) (objects : List (Addr × Bytes)) → StandsFor old (Made m ∷ []) → CanLoad (plain_of old) objects → plain_of new ≡ with_objects (plain_of old) objects
+  pub loads : (old new : Node) (m : Start) (objects : List (Addr × Bytes)) → StandsFor old (Made m ∷ [])
+      → CanLoad (plain_of old) objects → plain_of new ≡ with_objects (plain_of old) objects
       → StandsFor new (Made (with_heap m objects) ∷ [])

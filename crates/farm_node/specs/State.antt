@@ -15,9 +15,9 @@ abbrev pub cells_of : BTreeMap Addr Cell → Addr → Option Cell
 cells_of objects a = get addr_order objects a
 
 -- the state of the fields
-abbrev pub plain_from : BTreeMap Addr Cell → Occupancy → List (Option ℕ) → ℕ → ℕ → ℕ → NodeState
-plain_from objects places pins past floor actors = record {
-  cells = cells_of objects;
+abbrev pub plain_from : (Addr → Option Cell) → Occupancy → List (Option ℕ) → ℕ → ℕ → ℕ → NodeState
+plain_from cells places pins past floor actors = record {
+  cells = cells;
   regions = places.regions;
   pins = λ k. slice_index_or pins k None;
   past = past;
@@ -28,8 +28,8 @@ plain_from objects places pins past floor actors = record {
 }
 
 -- a place is taken where an object is there
-abbrev pub AgreesWith : BTreeMap Addr Cell → Occupancy → Type 0
-AgreesWith objects places = (a : Addr) → places.taken a ≡ is_some (cells_of objects a)
+abbrev pub AgreesWith : (Addr → Option Cell) → Occupancy → Type 0
+AgreesWith cells places = (a : Addr) → places.taken a ≡ is_some (cells a)
 
 abbrev pub is_settled_there : Option Cell → Bool
 is_settled_there None = false
@@ -40,8 +40,8 @@ settled_there None = true
 settled_there (Some c) = is_settled c
 
 -- whatever a collection could remove something of, stands in the list of touched addresses
-abbrev pub IsTracked : BTreeMap Addr Cell → List Addr → Type 0
-IsTracked objects touched = (a : Addr) → (settled_there (cells_of objects a) || list_any (same_addr a) touched) ≡ true
+abbrev pub IsTracked : (Addr → Option Cell) → List Addr → Type 0
+IsTracked cells touched = (a : Addr) → (settled_there (cells a) || list_any (same_addr a) touched) ≡ true
 
 -- an object more, by which its region is made
 abbrev pub with_cell : Addr → Cell → NodeState → NodeState
@@ -60,7 +60,8 @@ with_objects p (x ∷ xs) = with_objects (with_cell x.0 (loaded_cell p.floor x.1
 -- each object has a place of the node that is free when its turn comes, so no place stands twice
 abbrev pub CanLoad : NodeState → List (Addr × Bytes) → Type 0
 CanLoad p [] = Unit {0}
-CanLoad p (x ∷ xs) = IsPlace (occupancy p) x.0 × (p.cells x.0 ≡ None) × CanLoad (with_cell x.0 (loaded_cell p.floor x.1) p) xs
+CanLoad p (x ∷ xs) =
+    IsPlace (occupancy p) x.0 × (p.cells x.0 ≡ None) × CanLoad (with_cell x.0 (loaded_cell p.floor x.1) p) xs
 
 -- an object without a version
 abbrev pub is_new : Option Cell → Bool
@@ -72,6 +73,7 @@ abbrev pub has_lock : TxnId → Option Hold → Bool
 has_lock t None = false
 has_lock t (Some h) = same_txn h.by t
 
+-- and of what is at an address
 abbrev pub holds_there : TxnId → Option Cell → Bool
 holds_there t None = false
 holds_there t (Some c) = has_lock t c.lock
@@ -87,7 +89,10 @@ may_lock t r (Some c) = cond (has_lock t c.lock) (is_new (Some c)) (has_value r 
 
 -- without the object there; past rises to its bound
 abbrev pub given_back : Addr → NodeState → NodeState
-given_back a p = elim (p.cells a) as (λ _. NodeState) [ None ↦ p | Some c ↦ record p { cells = set_cell a None p.cells; past = max p.past c.bound } ]
+given_back a p = elim (p.cells a) as (λ _. NodeState) [
+  | None ↦ p
+  | Some c ↦ record p { cells = set_cell a None p.cells; past = max p.past c.bound }
+]
 
 -- collecting at one address
 
@@ -112,10 +117,14 @@ pub record SweepsCell (floor : ℕ) (c : Option Cell) (swept : Swept) : Type 0 w
 
 -- a state in which one address was collected
 abbrev pub collected_at : ℕ → Addr → NodeState → NodeState
-collected_at floor a p = record p { cells = set_cell a (collected floor (p.cells a)) p.cells; past = past_collected floor (p.cells a) p.past }
+collected_at floor a p = record p {
+  cells = set_cell a (collected floor (p.cells a)) p.cells;
+  past = past_collected floor (p.cells a) p.past;
+}
 
 -- the next touched address was collected, and stands last where something is left
 abbrev pub SweepsNext : ℕ → List Addr → NodeState → ℕ × Bool → List Addr → NodeState → Type 0
 SweepsNext floor [] p result touched q = (q ≡ p) × (touched ≡ []) × (result ≡ (0, false))
 SweepsNext floor (a ∷ rest) p result touched q =
-    (q ≡ collected_at floor a p) × (result.0 + versions_in (q.cells a) ≡ versions_in (p.cells a)) × (result.1 ≡ goes_there floor (p.cells a)) × ((touched ≡ rest) ⊎ (touched ≡ rest ++ a ∷ []))
+    (q ≡ collected_at floor a p) × (result.0 + versions_in (q.cells a) ≡ versions_in (p.cells a))
+    × (result.1 ≡ goes_there floor (p.cells a)) × ((touched ≡ rest) ⊎ (touched ≡ rest ++ a ∷ []))

@@ -15,6 +15,7 @@ pub record Given : Type 0 where
   pub read : ℕ
   pub value : Option Bytes
 
+-- a read stamp and a value
 abbrev pub gives : ℕ → Option Bytes → Given
 gives read value = record { read = read; value = value }
 
@@ -35,8 +36,10 @@ with_given t g h = record h { given = λ u. cond (same_txn t u) g (h.given u) }
 
 -- the value of a put is what its transaction last gave
 abbrev pub with_put : TxnId → ℕ → Story → Story
-with_put t w h = record h { puts = record { by = t; read = (h.given t).read; stamp = w; value = (h.given t).value } ∷ h.puts }
+with_put t w h =
+    record h { puts = record { by = t; read = (h.given t).read; stamp = w; value = (h.given t).value } ∷ h.puts }
 
+-- what an entry adds to the story of a
 abbrev pub story_after : Addr → Story → Entry → Story
 story_after a h (Made m) = h
 story_after a h (Open k c x) = h
@@ -50,6 +53,7 @@ story_after a h (Put t b w) = cond (same_addr b a) (with_put t w h) h
 story_after a h (Unlock t b) = h
 story_after a h (Collect k f removed) = h
 
+-- what entries add to it
 abbrev pub story_from : Addr → Story → List Entry → Story
 story_from a h [] = h
 story_from a h (e ∷ es) = story_from a (story_after a h e) es
@@ -61,14 +65,17 @@ nobody = record { actor = 0; number = 0 }
 -- loaded contents count as a put at the stamp of the start
 abbrev pub loaded_puts : Addr → ℕ → List (Addr × Bytes) → List Installed
 loaded_puts a stamp [] = []
-loaded_puts a stamp (x ∷ xs) = cond (same_addr x.0 a) (record { by = nobody; read = 0; stamp = stamp; value = Some x.1 } ∷ []) (loaded_puts a stamp xs)
+loaded_puts a stamp (x ∷ xs) = cond (same_addr x.0 a)
+    (record { by = nobody; read = 0; stamp = stamp; value = Some x.1 } ∷ []) (loaded_puts a stamp xs)
 
 abbrev pub untold : Story
 untold = record { puts = []; given = λ t. gives 0 None }
 
+-- the story behind the first entry
 abbrev pub story_begun : Addr → Start → Story
 story_begun a m = record { puts = loaded_puts a m.stamp m.heap; given = λ t. gives 0 None }
 
+-- the story of an address in a list of entries
 abbrev pub story : Addr → List Entry → Story
 story a [] = untold
 story a (Made m ∷ es) = story_from a (story_begun a m) es

@@ -39,8 +39,8 @@ pub struct Collected {
 pub enum CheckFault {
     /// Another transaction holds the address.
     Held { by: TxnId },
-    /// No other holds it, and its newest version, at the stamp `now`, is above the read stamp. The newest one at most the
-    /// read stamp is at `seen`, 0 where there is none.
+    /// No other holds it, and its newest version, at the stamp `now`, is above the read stamp. The newest one at most
+    /// the read stamp is at `seen`, 0 where there is none.
     Changed { seen: u64, now: u64 },
 }
 

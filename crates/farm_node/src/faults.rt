@@ -27,8 +27,8 @@ pub enum PlaceFault {
 pub enum LockFault {
     /// Another transaction holds the address.
     Held { by: TxnId },
-    /// No other holds it, and its newest version, at the stamp `now`, is above the read stamp. The newest one at most the
-    /// read stamp is at `seen`.
+    /// No other holds it, and its newest version, at the stamp `now`, is above the read stamp. The newest one at most
+    /// the read stamp is at `seen`.
     Changed { seen: u64, now: u64 },
     /// An allocation was refused.
     Memory,

@@ -17,6 +17,6 @@ pub use entry::{CheckFault, Collected, Entry, Found, Locked, Placed, Start};
 pub use faults::{LockFault, PlaceFault, ReadFault};
 pub use hold::Hold;
 pub use laws::{
-    locks_hold, mine_decides, lists_go_on, pins_hold, puts_hold, ranges_hold, reads_hold,
+    lists_go_on, locks_hold, mine_decides, pins_hold, puts_hold, ranges_hold, reads_hold,
 };
 pub use node::Node;

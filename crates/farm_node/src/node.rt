@@ -32,8 +32,8 @@ pub struct Node {
     past: u64,
     floor: u64,
     actors: u32,
-    ghost agrees: { AgreesWith objects (occupancy_of places) },
-    ghost tracked: { IsTracked objects touched.items },
+    ghost agrees: { AgreesWith (cells_of objects) (occupancy_of places) },
+    ghost tracked: { IsTracked (cells_of objects) touched.items },
     ghost numbered: { vec_len pins ≡ actors + 1 },
 }
 
@@ -63,7 +63,9 @@ impl Node {
         requires nodes { nodes ≤ NODE_LIMIT }
         requires node { node < nodes }
         requires stamp { (0 < stamp) × IsStamp stamp }
-        ensures { IfOk result (λ n. StandsFor n (Made (record { node = node; nodes = nodes; actors = actors; stamp = stamp; heap = [] }) ∷ [])) }
+        ensures { IfOk result (λ n.
+            StandsFor n
+            (Made (record { node = node; nodes = nodes; actors = actors; stamp = stamp; heap = [] }) ∷ [])) }
     {
         let pins = no_pins(alloc, actors as usize + 1)?;
         Ok(Node {
@@ -77,14 +79,14 @@ impl Node {
         })
     }
 
-    /// Pins the node for an actor at the greater of `c` and the floor, and answers that pin.
-    pub fn open(&mut self, actor: u32, c: u64) -> u64
+    /// Pins the node for an actor at the greater of `clock` and the floor, and answers that pin.
+    pub fn open(&mut self, actor: u32, clock: u64) -> u64
         requires actor { (0 < actor) × (actor ≤ (plain_of self.old).actors) }
         requires free { (plain_of self.old).pins actor ≡ None }
-        requires stamp { IsStamp c }
-        ensures { Adds (plain_of self.old) (Open actor c result) (plain_of self.new) }
+        requires stamp { IsStamp clock }
+        ensures { Adds (plain_of self.old) (Open actor clock result) (plain_of self.new) }
     {
-        let pin = c.max(self.floor);
+        let pin = clock.max(self.floor);
         self.pins[actor as usize] = Some(pin);
         pin
     }
@@ -97,18 +99,24 @@ impl Node {
         self.pins[actor as usize] = None;
     }
 
-    /// Reads an address at the stamp `s`: the newest version at most `s`, absent with the stamp 0 where there is none.
-    /// It bars later puts up to `s`. `Held` comes exactly where a transaction holds the address and no version is above
-    /// `s`, `Memory` for want of memory alone; after either the node is as before.
-    pub fn read(&mut self, alloc: Global, actor: u32, at: Addr, s: u64) -> Result<Found, ReadFault>
-        requires pinned { PinnedBy (plain_of self.old) actor s }
-        requires stamp { IsStamp s }
-        ensures { AddsIfMade (plain_of self.old) (read_entry actor at s result) (plain_of self.new) }
+    /// Reads an address at `stamp`: the newest version at most `stamp`, absent with the stamp 0 where there is none. It
+    /// bars later puts up to `stamp`. `Held` comes exactly where a transaction holds the address and no version is
+    /// above `stamp`, `Memory` for want of memory alone; after either the node is as before.
+    pub fn read(
+        &mut self,
+        alloc: Global,
+        actor: u32,
+        at: Addr,
+        stamp: u64,
+    ) -> Result<Found, ReadFault>
+        requires pinned { PinnedBy (plain_of self.old) actor stamp }
+        requires stamp { IsStamp stamp }
+        ensures { AddsIfMade (plain_of self.old) (read_entry actor at stamp result) (plain_of self.new) }
     {
         match self.objects.get_mut(&at) {
-            Some(object) => object.read(alloc, s),
+            Some(object) => object.read(alloc, stamp),
             None => {
-                self.past = self.past.max(s);
+                self.past = self.past.max(stamp);
                 Ok(Found {
                     stamp: 0,
                     value: None,
@@ -117,28 +125,29 @@ impl Node {
         }
     }
 
-    /// Makes an object for a transaction of the read stamp `r`, which then holds its lock, at the least free place of the
-    /// lowest made region that has one, else at the first place of the lowest region not made. The answer tells the place
-    /// and the bound: the greater of `r` and the stamp up to which puts at addresses without an object are barred.
-    /// `Spent` comes exactly where all places of the node are taken, `Memory` for want of memory alone; after either the
-    /// node is as before.
+    /// Makes an object for a transaction, which then holds its lock, at the least free place of the lowest made region
+    /// that has one, else at the first place of the lowest region not made. The answer tells the place and the bound:
+    /// the greater of `read_stamp` and the stamp up to which puts at addresses without an object are barred. `Spent`
+    /// comes exactly where all places of the node are taken, `Memory` for want of memory alone; after either the node
+    /// is as before.
     pub fn alloc(
         &mut self,
         alloc: Global,
-        t: TxnId,
-        r: u64,
+        transaction: TxnId,
+        read_stamp: u64,
         bytes: Bin,
     ) -> Result<Placed, PlaceFault>
-        requires pinned { PinnedBy (plain_of self.old) t.actor r }
-        requires stamp { IsStamp r }
-        ensures made { AddsIfMade (plain_of self.old) (alloc_entry t r bytes result) (plain_of self.new) }
+        requires pinned { PinnedBy (plain_of self.old) transaction.actor read_stamp }
+        requires stamp { IsStamp read_stamp }
+        ensures made { AddsIfMade (plain_of self.old) (alloc_entry transaction read_stamp bytes result)
+            (plain_of self.new) }
         ensures spent { (result ≡ Err PlaceFault.Spent) ↔ IsSpent (occupancy (plain_of self.old)) }
     {
         let Some(at) = self.places.least_free() else {
             return Err(PlaceFault::Spent);
         };
-        let bound = self.past.max(r);
-        match self.make(alloc, at, t, bytes, bound) {
+        let bound = self.past.max(read_stamp);
+        match self.make(alloc, at, transaction, bytes, bound) {
             Ok(()) => Ok(Placed { at, bound }),
             Err(_) => Err(PlaceFault::Memory),
         }
@@ -149,16 +158,17 @@ impl Node {
         &mut self,
         alloc: Global,
         at: Addr,
-        t: TxnId,
+        transaction: TxnId,
         bytes: Bin,
         bound: u64,
     ) -> Result<(), Memory>
         requires place { IsPlace (occupancy (plain_of self.old)) at }
         requires free { (plain_of self.old).cells at ≡ None }
-        ensures ok { OnOk result (plain_of self.new ≡ with_cell at (made_by t bytes bound) (plain_of self.old)) }
+        ensures ok { OnOk result
+            (plain_of self.new ≡ with_cell at (made_by transaction bytes bound) (plain_of self.old)) }
         ensures err { OnErr result (plain_of self.new ≡ plain_of self.old) }
     {
-        let object = Object::made(alloc, t, bytes, bound)?;
+        let object = Object::made(alloc, transaction, bytes, bound)?;
         self.touch(at)?;
         self.insert(at, object)
     }
@@ -174,14 +184,16 @@ impl Node {
         insert_at(&mut self.objects, &mut self.places, at, object)
     }
 
-    /// Loads objects before any event, each with one version at the stamp of the start. `Memory` comes for want of memory
-    /// alone; then a front of them is loaded.
+    /// Loads objects before any event, each with one version at the stamp of the start. `Memory` comes for want of
+    /// memory alone; then a front of them is loaded.
     pub fn load(&mut self, alloc: Global, objects: Vec<(Addr, Bin)>) -> Result<(), Memory>
         requires places { CanLoad (plain_of self.old) objects.items }
         requires stamp { 0 < (plain_of self.old).floor }
         ensures ok { OnOk result (plain_of self.new ≡ with_objects (plain_of self.old) objects.items) }
-        ensures err { OnErr result ((k : ℕ) × (plain_of self.new ≡ with_objects (plain_of self.old) (take k objects.items))) }
-        ensures begins { (m : Start) → StandsFor self.old (Made m ∷ []) → OnOk result (StandsFor self.new (Made (with_heap m objects.items) ∷ [])) }
+        ensures err { OnErr result
+            ((k : ℕ) × (plain_of self.new ≡ with_objects (plain_of self.old) (take k objects.items))) }
+        ensures begins { (m : Start) → StandsFor self.old (Made m ∷ [])
+            → OnOk result (StandsFor self.new (Made (with_heap m objects.items) ∷ [])) }
     {
         for (at, bytes) in objects {
             self.load_one(alloc, at, bytes)?;
@@ -195,7 +207,8 @@ impl Node {
         requires place { IsPlace (occupancy (plain_of self.old)) at }
         requires free { (plain_of self.old).cells at ≡ None }
         requires stamp { 0 < (plain_of self.old).floor }
-        ensures ok { OnOk result (plain_of self.new ≡ with_cell at (loaded_cell (plain_of self.old).floor bytes) (plain_of self.old)) }
+        ensures ok { OnOk result
+            (plain_of self.new ≡ with_cell at (loaded_cell (plain_of self.old).floor bytes) (plain_of self.old)) }
         ensures err { OnErr result (plain_of self.new ≡ plain_of self.old) }
     {
         let object = Object::loaded(alloc, self.floor, bytes)?;
@@ -210,59 +223,64 @@ impl Node {
     }
 
     /// Whether the transaction has the lock of an address.
-    pub fn holds(&self, t: TxnId, at: Addr) -> bool
-        ensures { result ≡ holds_there t ((plain_of self.now).cells at) }
+    pub fn holds(&self, transaction: TxnId, at: Addr) -> bool
+        ensures { result ≡ holds_there transaction ((plain_of self.now).cells at) }
     {
         match self.objects.get(&at) {
-            Some(object) => object.is_held_by(t),
+            Some(object) => object.is_held_by(transaction),
             None => false,
         }
     }
 
-    /// Whether the transaction, of the read stamp `r`, may ask for the lock of an address: there is a value at `r` and it
-    /// does not hold the address, or it holds it from its own `alloc`.
-    pub fn may_lock(&self, t: TxnId, at: Addr, r: u64) -> bool
-        ensures { result ≡ may_lock t r ((plain_of self.now).cells at) }
+    /// Whether the transaction may ask for the lock of an address: there is a value at `read_stamp` and it does not
+    /// hold the address, or it holds it from its own `alloc`.
+    pub fn may_lock(&self, transaction: TxnId, at: Addr, read_stamp: u64) -> bool
+        ensures { result ≡ may_lock transaction read_stamp ((plain_of self.now).cells at) }
     {
         match self.objects.get(&at) {
-            Some(object) => object.may_lock(t, r),
+            Some(object) => object.may_lock(transaction, read_stamp),
             None => false,
         }
     }
 
     /// Asks for the lock of an address, to install `new` under it, none for an object that goes. A transaction may lock
     /// again what it holds from its own `alloc`. `Held` comes exactly where another transaction holds the address,
-    /// `Changed` exactly where no other does and its newest stamp is above `r`, `Memory` behind both and for want of
-    /// memory alone; after each the node is as before.
+    /// `Changed` exactly where no other does and its newest stamp is above `read_stamp`, `Memory` behind both and for
+    /// want of memory alone; after each the node is as before.
     pub fn lock(
         &mut self,
-        t: TxnId,
+        transaction: TxnId,
         at: Addr,
-        r: u64,
+        read_stamp: u64,
         new: Option<Bin>,
     ) -> Result<Locked, LockFault>
-        requires pinned { PinnedBy (plain_of self.old) t.actor r }
-        requires stamp { IsStamp r }
-        requires may { MayLock (plain_of self.old) t at r }
-        ensures { AddsIfMade (plain_of self.old) (lock_entry t at r new result) (plain_of self.new) }
+        requires pinned { PinnedBy (plain_of self.old) transaction.actor read_stamp }
+        requires stamp { IsStamp read_stamp }
+        requires may { MayLock (plain_of self.old) transaction at read_stamp }
+        ensures { AddsIfMade (plain_of self.old) (lock_entry transaction at read_stamp new result) (plain_of self.new) }
     {
-        let (locked, settled) = self.ask_lock(t, at, r)?;
+        let (locked, settled) = self.ask_lock(transaction, at, read_stamp)?;
         if settled {
             self.touch(at)?;
         }
-        self.hold(t, at, new)?;
+        self.hold(transaction, at, new)?;
         Ok(locked)
     }
 
     // Whether the transaction may have the lock, and whether what is there is settled.
-    fn ask_lock(&self, t: TxnId, at: Addr, r: u64) -> Result<(Locked, bool), CheckFault>
-        ensures given { IfOk result (λ x. Ok x.0 ≡ lock_answer t r (cells_of self.now.objects at)) }
+    fn ask_lock(
+        &self,
+        transaction: TxnId,
+        at: Addr,
+        read_stamp: u64,
+    ) -> Result<(Locked, bool), CheckFault>
+        ensures given { IfOk result (λ x. Ok x.0 ≡ lock_answer transaction read_stamp (cells_of self.now.objects at)) }
         ensures settled { IfOk result (λ x. x.1 ≡ is_settled_there (cells_of self.now.objects at)) }
-        ensures fault { IfErr result (λ f. Err f ≡ lock_answer t r (cells_of self.now.objects at)) }
+        ensures fault { IfErr result (λ f. Err f ≡ lock_answer transaction read_stamp (cells_of self.now.objects at)) }
     {
         match self.objects.get(&at) {
             Some(object) => {
-                let locked = object.lockable(t, r)?;
+                let locked = object.lockable(transaction, read_stamp)?;
                 Ok((locked, object.is_settled()))
             }
             None => Ok((Locked { seen: 0, bound: 0 }, false)),
@@ -282,50 +300,56 @@ impl Node {
     }
 
     // Locks an object whose address is in the list of touched ones.
-    fn hold(&mut self, t: TxnId, at: Addr, new: Option<Bin>) -> Result<(), Memory>
+    fn hold(&mut self, transaction: TxnId, at: Addr, new: Option<Bin>) -> Result<(), Memory>
         requires there { list_any (same_addr at) self.old.touched.items ≡ true }
-        ensures ok { OnOk result (plain_of self.new ≡ with_lock at t new (plain_of self.old)) }
+        ensures ok { OnOk result (plain_of self.new ≡ with_lock at transaction new (plain_of self.old)) }
         ensures err { OnErr result (plain_of self.new ≡ plain_of self.old) }
     {
         match self.objects.get_mut(&at) {
-            Some(object) => object.hold(t, new),
+            Some(object) => object.hold(transaction, new),
             None => Ok(()),
         }
     }
 
-    /// Whether what the transaction read at `r` still stands, on its way to commit at `w`: then puts up to `w` are
-    /// barred. `Held` comes exactly where another holds the address, `Changed` exactly where no other does and its newest
-    /// stamp is above `r`; after either the node is as before.
-    pub fn check(&mut self, t: TxnId, at: Addr, r: u64, w: u64) -> Result<(), CheckFault>
-        requires pinned { PinnedBy (plain_of self.old) t.actor r }
-        requires stamps { IsStamp r × IsStamp w }
-        requires not_own { HeldBy (plain_of self.old) t at → ⊥ }
-        ensures { Adds (plain_of self.old) (Check t at r w result) (plain_of self.new) }
+    /// Whether what the transaction read at `read_stamp` still stands, on its way to commit at `write_stamp`: then puts
+    /// up to `write_stamp` are barred. `Held` comes exactly where another holds the address, `Changed` exactly where no
+    /// other does and its newest stamp is above `read_stamp`; after either the node is as before.
+    pub fn check(
+        &mut self,
+        transaction: TxnId,
+        at: Addr,
+        read_stamp: u64,
+        write_stamp: u64,
+    ) -> Result<(), CheckFault>
+        requires pinned { PinnedBy (plain_of self.old) transaction.actor read_stamp }
+        requires stamps { IsStamp read_stamp × IsStamp write_stamp }
+        requires not_own { HeldBy (plain_of self.old) transaction at → ⊥ }
+        ensures { Adds (plain_of self.old) (Check transaction at read_stamp write_stamp result) (plain_of self.new) }
     {
         match self.objects.get_mut(&at) {
-            Some(object) => object.check(r, w),
+            Some(object) => object.check(read_stamp, write_stamp),
             None => {
-                self.past = self.past.max(w);
+                self.past = self.past.max(write_stamp);
                 Ok(())
             }
         }
     }
 
-    /// Installs at the stamp `w`, above the bound, the value that waits, and unlocks the address.
-    pub fn put(&mut self, t: TxnId, at: Addr, w: u64)
-        requires may { MayPut (plain_of self.old) t at w }
-        requires stamp { IsStamp w }
-        ensures { Adds (plain_of self.old) (Put t at w) (plain_of self.new) }
+    /// Installs at `write_stamp`, above the bound, the value that waits, and unlocks the address.
+    pub fn put(&mut self, transaction: TxnId, at: Addr, write_stamp: u64)
+        requires may { MayPut (plain_of self.old) transaction at write_stamp }
+        requires stamp { IsStamp write_stamp }
+        ensures { Adds (plain_of self.old) (Put transaction at write_stamp) (plain_of self.new) }
     {
         if let Some(object) = self.objects.get_mut(&at) {
-            object.install(w);
+            object.install(write_stamp);
         }
     }
 
     /// Gives the lock of an address up. An object that its transaction made goes with it, and its place is free again.
-    pub fn unlock(&mut self, t: TxnId, at: Addr)
-        requires held { HeldBy (plain_of self.old) t at }
-        ensures { Adds (plain_of self.old) (Unlock t at) (plain_of self.new) }
+    pub fn unlock(&mut self, transaction: TxnId, at: Addr)
+        requires held { HeldBy (plain_of self.old) transaction at }
+        ensures { Adds (plain_of self.old) (Unlock transaction at) (plain_of self.new) }
     {
         if self.is_new(at) {
             self.give_back(at);
@@ -357,15 +381,15 @@ impl Node {
         }
     }
 
-    /// Collects with the proposal `f`: the floor rises to the least of `f` and the pins, and never falls. The versions older
-    /// than the newest one at most the floor go, and so do the objects without a lock whose newest version is absent and
-    /// at most the floor; their places are free again. It takes time by the addresses that were locked since the last
+    /// Collects: the floor rises to the least of `proposal` and the pins, and never falls. The versions older than the
+    /// newest one at most the floor go, and so do the objects without a lock whose newest version is absent and at most
+    /// the floor; their places are free again. It takes time by the addresses that were locked since the last
     /// collection, and by those that have old versions or are absent.
-    pub fn collect(&mut self, f: u64) -> Collected
-        requires stamp { IsStamp f }
-        ensures { (k : ℕ) → 0 < k → Adds (plain_of self.old) (Collect k f result) (plain_of self.new) }
+    pub fn collect(&mut self, proposal: u64) -> Collected
+        requires stamp { IsStamp proposal }
+        ensures { (k : ℕ) → 0 < k → Adds (plain_of self.old) (Collect k proposal result) (plain_of self.new) }
     {
-        let floor = self.floor.max(least_pin(self.pins.as_slice(), f));
+        let floor = self.floor.max(least_pin(self.pins.as_slice(), proposal));
         let (versions, objects) = self.sweep(floor);
         self.floor = floor;
         Collected {
@@ -383,9 +407,8 @@ impl Node {
     {
         let mut versions: u64 = 0;
         let mut objects: u64 = 0;
-        if self.places.regions() == 0 {
-            return (versions, objects);
-        }
+        // For the proof alone: what `regions` ensures says that every object lies in a made region.
+        prove!(self.places.regions() <= u32::MAX);
         let count = self.touched.len();
         for _ in 0..count {
             let (removed, gone) = self.sweep_next(floor);
@@ -398,7 +421,8 @@ impl Node {
     // Removes what a collection at this floor removes at the next touched address, and says how many versions, and
     // whether the object went.
     fn sweep_next(&mut self, floor: u64) -> (u64, bool)
-        ensures { SweepsNext floor self.old.touched.items (plain_of self.old) result self.new.touched.items (plain_of self.new) }
+        ensures { SweepsNext floor self.old.touched.items (plain_of self.old) result self.new.touched.items
+            (plain_of self.new) }
     {
         let Some(at) = self.touched.pop_front() else {
             return (0, false);
@@ -415,9 +439,8 @@ impl Node {
         ensures versions { result.1 ≡ counted (version_count (plain_of self.now)) }
     {
         let mut versions: u64 = 0;
-        if self.places.regions() == 0 {
-            return (0, versions);
-        }
+        // For the proof alone, as in `sweep`.
+        prove!(self.places.regions() <= u32::MAX);
         for object in self.objects.values() {
             versions = versions.saturating_add(object.len());
         }
@@ -442,8 +465,10 @@ fn insert_at(
     requires none { cells_of objects.old at ≡ None }
     requires place { IsPlace (occupancy_of places.old) at }
     requires free { IsFree (occupancy_of places.old) at }
-    ensures ok { OnOk result ((cells_of objects.new ≡ set_cell at (Some object) (cells_of objects.old)) × (occupancy_of places.new ≡ with_place at (occupancy_of places.old))) }
-    ensures err { OnErr result ((cells_of objects.new ≡ cells_of objects.old) × (occupancy_of places.new ≡ occupancy_of places.old)) }
+    ensures ok { OnOk result ((cells_of objects.new ≡ set_cell at (Some object) (cells_of objects.old))
+        × (occupancy_of places.new ≡ with_place at (occupancy_of places.old))) }
+    ensures err { OnErr result ((cells_of objects.new ≡ cells_of objects.old)
+        × (occupancy_of places.new ≡ occupancy_of places.old)) }
 {
     put_object(objects, at, object)?;
     match places.claim(at) {
@@ -477,7 +502,8 @@ fn take_object(objects: &mut BTreeMap<Addr, Object>, at: Addr) -> Option<Object>
 
 // Removes what a collection at this floor removes at an address.
 fn sweep_at(objects: &mut BTreeMap<Addr, Object>, at: Addr, floor: u64) -> Swept
-    ensures cells { cells_of objects.new ≡ set_cell at (collected floor (cells_of objects.old at)) (cells_of objects.old) }
+    ensures cells { cells_of objects.new
+        ≡ set_cell at (collected floor (cells_of objects.old at)) (cells_of objects.old) }
     ensures swept { SweepsCell floor (cells_of objects.old at) result }
 {
     match gone_at(objects, at, floor) {
@@ -509,7 +535,8 @@ fn gone_at(objects: &BTreeMap<Addr, Object>, at: Addr, floor: u64) -> Option<Swe
 // Removes the old versions of an object that stays.
 fn cut_at(objects: &mut BTreeMap<Addr, Object>, at: Addr, floor: u64) -> Swept
     requires { goes_there floor (cells_of objects.old at) ≡ false }
-    ensures cells { cells_of objects.new ≡ set_cell at (collected floor (cells_of objects.old at)) (cells_of objects.old) }
+    ensures cells { cells_of objects.new
+        ≡ set_cell at (collected floor (cells_of objects.old at)) (cells_of objects.old) }
     ensures swept { SweepsCell floor (cells_of objects.old at) result }
 {
     match objects.get_mut(&at) {
@@ -533,7 +560,8 @@ fn cut_at(objects: &mut BTreeMap<Addr, Object>, at: Addr, floor: u64) -> Swept
 // Gives the place of an object of this bound back, where one went.
 fn give_place(places: &mut Places, past: &mut u64, at: Addr, gone: Option<u64>)
     requires { is_some gone ≡ true → (occupancy_of places.old).taken at ≡ true }
-    ensures places { occupancy_of places.new ≡ (if is_some gone then without_place at (occupancy_of places.old) else occupancy_of places.old) }
+    ensures places { occupancy_of places.new
+        ≡ (if is_some gone then without_place at (occupancy_of places.old) else occupancy_of places.old) }
     ensures past { past.new ≡ past_with gone past.old }
 {
     if let Some(bound) = gone {
@@ -553,11 +581,11 @@ fn keep(touched: &mut VecDeque<Addr>, at: Addr, stays: bool)
 }
 
 // The least of a proposal and the pins of the actors from 1 on.
-fn least_pin(pins: &[Option<u64>], f: u64) -> u64
+fn least_pin(pins: &[Option<u64>], proposal: u64) -> u64
     requires { 0 < length pins.now }
-    ensures { result ≡ least_pin f (λ k. slice_index_or pins.now k None) (length pins.now - 1) }
+    ensures { result ≡ least_pin proposal (λ k. slice_index_or pins.now k None) (length pins.now - 1) }
 {
-    let mut least = f;
+    let mut least = proposal;
     for k in 0..pins.len() - 1 {
         least = lesser(pins[k + 1], least);
     }

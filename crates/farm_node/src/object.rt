@@ -33,8 +33,8 @@ impl Model for Object {
 
 impl Object {
     /// A new object, locked by the transaction that makes it. `Memory` comes for want of memory alone.
-    pub fn made(alloc: Global, t: TxnId, bytes: Bin, bound: u64) -> Result<Object, Memory>
-        ensures { IfOk result (λ o. o ≡ made_by t bytes bound) }
+    pub fn made(alloc: Global, transaction: TxnId, bytes: Bin, bound: u64) -> Result<Object, Memory>
+        ensures { IfOk result (λ o. o ≡ made_by transaction bytes bound) }
     {
         let mut chain = Chain::new(alloc);
         chain.reserve()?;
@@ -42,7 +42,7 @@ impl Object {
             chain,
             bound,
             lock: Some(Hold {
-                by: t,
+                by: transaction,
                 pending: Some(bytes),
             }),
         })
@@ -74,41 +74,41 @@ impl Object {
     }
 
     /// Whether the transaction has its lock.
-    pub fn is_held_by(&self, t: TxnId) -> bool
-        ensures { result ≡ has_lock t self.now.lock }
+    pub fn is_held_by(&self, transaction: TxnId) -> bool
+        ensures { result ≡ has_lock transaction self.now.lock }
     {
         match self.holder() {
-            Some(by) => by == t,
+            Some(by) => by == transaction,
             None => false,
         }
     }
 
-    // Whether there is a value at the stamp `r`.
-    fn has_value(&self, r: u64) -> bool
-        ensures { result ≡ has_value r self.now }
+    // Whether there is a value at `stamp`.
+    fn has_value(&self, stamp: u64) -> bool
+        ensures { result ≡ has_value stamp self.now }
     {
-        match self.chain.at(r) {
+        match self.chain.at(stamp) {
             Some((_, value)) => value.is_some(),
             None => false,
         }
     }
 
-    /// Whether the transaction, of the read stamp `r`, may ask for its lock.
-    pub fn may_lock(&self, t: TxnId, r: u64) -> bool
-        ensures { result ≡ may_lock t r (Some self.now) }
+    /// Whether the transaction may ask for its lock: by a value at `read_stamp`, or as the maker of a new object.
+    pub fn may_lock(&self, transaction: TxnId, read_stamp: u64) -> bool
+        ensures { result ≡ may_lock transaction read_stamp (Some self.now) }
     {
-        if self.is_held_by(t) {
+        if self.is_held_by(transaction) {
             self.is_new()
         } else {
-            self.has_value(r)
+            self.has_value(read_stamp)
         }
     }
 
-    /// What stands at the stamp `s`. `Memory` comes for want of memory alone.
-    pub fn found(&self, alloc: Global, s: u64) -> Result<Found, Memory>
-        ensures { IfOk result (λ found. found ≡ found_at s self.now.versions) }
+    /// What stands at `stamp`. `Memory` comes for want of memory alone.
+    pub fn found(&self, alloc: Global, stamp: u64) -> Result<Found, Memory>
+        ensures { IfOk result (λ found. found ≡ found_at stamp self.now.versions) }
     {
-        match self.chain.at(s) {
+        match self.chain.at(stamp) {
             None => Ok(Found {
                 stamp: 0,
                 value: None,
@@ -121,50 +121,50 @@ impl Object {
         }
     }
 
-    /// Reads at the stamp `s`, which bars later puts up to `s`. `Memory` comes for want of memory alone, and leaves the
-    /// object as it was.
-    pub fn read(&mut self, alloc: Global, s: u64) -> Result<Found, ReadFault>
-        ensures { ReadsCell s self.old result self.new }
+    /// Reads at `stamp`, which bars later puts up to it. `Memory` comes for want of memory alone, and leaves the object
+    /// as it was.
+    pub fn read(&mut self, alloc: Global, stamp: u64) -> Result<Found, ReadFault>
+        ensures { ReadsCell stamp self.old result self.new }
     {
         if let Some(by) = self.holder() {
-            if self.chain.newest() <= s {
+            if self.chain.newest() <= stamp {
                 return Err(ReadFault::Held { by });
             }
         }
-        let Ok(found) = self.found(alloc, s) else {
+        let Ok(found) = self.found(alloc, stamp) else {
             return Err(ReadFault::Memory);
         };
-        self.bound = self.bound.max(s);
+        self.bound = self.bound.max(stamp);
         Ok(found)
     }
 
-    // Whether no version is above the stamp `r`.
-    fn unchanged(&self, r: u64) -> Result<(), CheckFault>
-        ensures { result ≡ unless_changed r self.now tt }
+    // Whether no version is above `read_stamp`.
+    fn unchanged(&self, read_stamp: u64) -> Result<(), CheckFault>
+        ensures { result ≡ unless_changed read_stamp self.now tt }
     {
         let now = self.chain.newest();
-        if now <= r {
+        if now <= read_stamp {
             return Ok(());
         }
-        let seen = match self.chain.at(r) {
+        let seen = match self.chain.at(read_stamp) {
             Some((stamp, _)) => stamp,
             None => 0,
         };
         Err(CheckFault::Changed { seen, now })
     }
 
-    /// Whether the transaction, of the read stamp `r`, may lock it.
-    pub fn lockable(&self, t: TxnId, r: u64) -> Result<Locked, CheckFault>
-        ensures { result ≡ lock_answer t r (Some self.now) }
+    /// Whether the transaction may lock it: no other holds it, and no version is above `read_stamp`.
+    pub fn lockable(&self, transaction: TxnId, read_stamp: u64) -> Result<Locked, CheckFault>
+        ensures { result ≡ lock_answer transaction read_stamp (Some self.now) }
     {
         let Some(by) = self.holder() else {
-            self.unchanged(r)?;
+            self.unchanged(read_stamp)?;
             return Ok(Locked {
                 seen: self.chain.newest(),
                 bound: self.bound,
             });
         };
-        if by == t {
+        if by == transaction {
             Ok(Locked {
                 seen: 0,
                 bound: self.bound,
@@ -175,42 +175,42 @@ impl Object {
     }
 
     /// Locks it, to install `new`. `Memory` comes for want of memory alone, and leaves the object as it was.
-    pub fn hold(&mut self, t: TxnId, new: Option<Bin>) -> Result<(), Memory>
-        ensures ok { OnOk result (Some self.new ≡ locked_by t new (Some self.old)) }
+    pub fn hold(&mut self, transaction: TxnId, new: Option<Bin>) -> Result<(), Memory>
+        ensures ok { OnOk result (Some self.new ≡ locked_by transaction new (Some self.old)) }
         ensures err { OnErr result (self.new ≡ self.old) }
     {
         self.chain.reserve()?;
         self.lock = Some(Hold {
-            by: t,
+            by: transaction,
             pending: new,
         });
         Ok(())
     }
 
-    /// Whether what was read at `r` still stands, which bars later puts up to `w`.
-    pub fn check(&mut self, r: u64, w: u64) -> Result<(), CheckFault>
-        ensures answer { result ≡ check_answer r (Some self.old) }
-        ensures ok { OnOk result (self.new ≡ record self.old { bound = max self.old.bound w }) }
+    /// Whether what was read at `read_stamp` still stands, which bars later puts up to `write_stamp`.
+    pub fn check(&mut self, read_stamp: u64, write_stamp: u64) -> Result<(), CheckFault>
+        ensures answer { result ≡ check_answer read_stamp (Some self.old) }
+        ensures ok { OnOk result (self.new ≡ record self.old { bound = max self.old.bound write_stamp }) }
         ensures err { OnErr result (self.new ≡ self.old) }
     {
         if let Some(by) = self.holder() {
             return Err(CheckFault::Held { by });
         }
-        self.unchanged(r)?;
-        self.bound = self.bound.max(w);
+        self.unchanged(read_stamp)?;
+        self.bound = self.bound.max(write_stamp);
         Ok(())
     }
 
-    /// Installs the value that waits at `w`, and unlocks it.
-    pub fn install(&mut self, w: u64)
+    /// Installs the value that waits at `write_stamp`, and unlocks it.
+    pub fn install(&mut self, write_stamp: u64)
         requires locked { is_open self.old.lock ≡ false }
-        requires above { self.old.bound < w }
-        ensures { Some self.new ≡ installed w (Some self.old) }
+        requires above { self.old.bound < write_stamp }
+        ensures { Some self.new ≡ installed write_stamp (Some self.old) }
     {
         if let Some(hold) = self.lock.take() {
             let Hold { pending, .. } = hold;
-            self.chain.push(w, pending);
-            self.bound = w;
+            self.chain.push(write_stamp, pending);
+            self.bound = write_stamp;
         }
     }
 

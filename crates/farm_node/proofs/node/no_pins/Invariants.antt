@@ -1,4 +1,4 @@
-use Rattle.std.proofs.Common.{◌≡◌, None, replicate}
+use Rattle.farm_node.proofs.Common.{◌≡◌, None, replicate}
 use Rattle.farm_node.proofs.node.no_pins.Given as goal
 
 abbrev pub invariant-loop : goal.invariant-loop

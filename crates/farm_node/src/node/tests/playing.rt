@@ -27,7 +27,8 @@ pub enum Event {
 use Event::{Alloc, Check, Collect, Lock, Open, Put, Read, Shut, Unlock};
 
 fn is_unpinned(node: &Node, actor: u32) -> bool
-    ensures { IsTrue result → (0 < actor) × (actor ≤ (plain_of node.now).actors) × ((plain_of node.now).pins actor ≡ None) }
+    ensures { IsTrue result
+        → (0 < actor) × (actor ≤ (plain_of node.now).actors) × ((plain_of node.now).pins actor ≡ None) }
 {
     match node.pins.get(actor as usize) {
         Some(pin) => actor > 0 && pin.is_none(),

@@ -180,8 +180,8 @@ fn is_absent(newest: Option<Version>, s: u64) -> bool {
     }
 }
 
-// Whether the object that the first of these entries made at an address has gone: it was unlocked before it had a version,
-// or it was collected while nobody held it, at a floor from which on it is absent.
+// Whether the object that the first of these entries made at an address has gone: it was unlocked before it had a
+// version, or it was collected while nobody held it, at a floor from which on it is absent.
 fn has_gone(life: &[Entry], at: Addr) -> bool {
     let mut newest = None;
     let mut locked = false;
@@ -229,8 +229,8 @@ fn is_present(entries: &[Entry], at: Addr, k: usize) -> bool {
     }
 }
 
-// Whether a version of a present object is still there, of which these are the later entries: it goes by the first collection
-// behind the next version whose floor is at least that one's stamp.
+// Whether a version of a present object is still there, of which these are the later entries: it goes by the first
+// collection behind the next version whose floor is at least that one's stamp.
 fn stays(later: &[Entry], at: Addr) -> bool {
     let mut next = None;
     for entry in later {

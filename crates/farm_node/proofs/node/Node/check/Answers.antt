@@ -1,30 +1,28 @@
-use Rattle.std.proofs.Common.{Some, ap}
-use Rattle.std.specs.Option.{is_some}
-use Rattle.object_region.specs.Regions.{occupancy_of}
+use Rattle.farm_node.proofs.Common.{Some, is_some, ap, occupancy_of, cells_of, plain_of}
 use Rattle.farm_node.proofs.CellMaps.{cells_written, agrees_set, tracked_kept}
 use Rattle.farm_node.proofs.Events.{check_there, check_nowhere, check_settled}
 use Rattle.farm_node.proofs.node.Node.check.Goals as goal
 
 pub invariant_of-self-clause-agrees : goal.invariant_of-self-clause-agrees
 invariant_of-self-clause-agrees c =
-    agrees_set c.args.self.now.objects (c.get_mut.follows.lender c.check.new.self) (occupancy_of c.args.self.now.places) c.args.at (Some c.check.new.self) c.args.self.now.agrees
+    agrees_set (cells_of c.args.self.now.objects) (cells_of (c.get_mut.follows.lender c.check.new.self)) (occupancy_of c.args.self.now.places) c.args.at (Some c.check.new.self) c.args.self.now.agrees
     (cells_written c.args.self.now.objects (c.get_mut.follows.lender c.check.new.self) c.args.at c.in-Some.object.now c.check.new.self c.in-Some.ensures.value (c.get_mut.follows.holds c.check.new.self))
     (ap is_some c.in-Some.ensures.value)
 
 pub invariant_of-self-clause-tracked : goal.invariant_of-self-clause-tracked
 invariant_of-self-clause-tracked c =
-    tracked_kept c.args.self.now.objects (c.get_mut.follows.lender c.check.new.self) c.args.self.now.touched.items c.args.at c.in-Some.object.now c.check.new.self c.args.self.now.tracked c.in-Some.ensures.value
+    tracked_kept (cells_of c.args.self.now.objects) (cells_of (c.get_mut.follows.lender c.check.new.self)) c.args.self.now.touched.items c.args.at c.in-Some.object.now c.check.new.self c.args.self.now.tracked c.in-Some.ensures.value
     (cells_written c.args.self.now.objects (c.get_mut.follows.lender c.check.new.self) c.args.at c.in-Some.object.now c.check.new.self c.in-Some.ensures.value (c.get_mut.follows.holds c.check.new.self))
-    (check_settled c.args.w c.in-Some.object.now c.check.new.self c.check.result c.check.ensures.ok c.check.ensures.err)
+    (check_settled c.args.write_stamp c.in-Some.object.now c.check.new.self c.check.result c.check.ensures.ok c.check.ensures.err)
 
 pub returns-in-Some : goal.returns-in-Some
 returns-in-Some c =
-    check_there c.args.self.now.objects (c.get_mut.follows.lender c.check.new.self) (occupancy_of c.args.self.now.places) c.args.self.now.pins.items c.args.self.now.past c.args.self.now.floor c.args.self.now.actors c.args.at
-    c.args.t c.args.r c.args.w c.in-Some.object.now c.check.new.self c.check.result c.in-Some.ensures.value
+    check_there (plain_of c.args.self.now) (cells_of (c.get_mut.follows.lender c.check.new.self)) c.args.at
+    c.args.transaction c.args.read_stamp c.args.write_stamp c.in-Some.object.now c.check.new.self c.check.result c.in-Some.ensures.value
     (cells_written c.args.self.now.objects (c.get_mut.follows.lender c.check.new.self) c.args.at c.in-Some.object.now c.check.new.self c.in-Some.ensures.value (c.get_mut.follows.holds c.check.new.self))
     c.check.ensures.answer c.check.ensures.ok c.check.ensures.err c.requires.pinned c.requires.stamps c.requires.not_own
 
 pub returns-in-None : goal.returns-in-None
 returns-in-None c =
-    check_nowhere c.args.self.now.objects c.get_mut.follows.lender-at-none (occupancy_of c.args.self.now.places) c.args.self.now.pins.items c.args.self.now.past c.max-self.result c.args.self.now.floor c.args.self.now.actors
-    c.args.at c.args.t c.args.r c.args.w c.in-None.ensures.value c.get_mut.follows.holds-at-none c.max-self.ensures c.requires.pinned c.requires.stamps c.requires.not_own
+    check_nowhere (plain_of c.args.self.now) (cells_of c.get_mut.follows.lender-at-none) c.max-self.result c.args.at c.args.transaction c.args.read_stamp c.args.write_stamp c.in-None.ensures.value
+    (ap cells_of c.get_mut.follows.holds-at-none) c.max-self.ensures c.requires.pinned c.requires.stamps c.requires.not_own

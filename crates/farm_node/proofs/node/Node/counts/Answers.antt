@@ -1,36 +1,11 @@
-use Rattle.std.proofs.Common.{◌∙◌, ap, sym, refl, arith}
-use Rattle.std.specs.BTreeMap.{values}
-use Rattle.object_region.specs.Regions.{occupancy_of}
-use Rattle.farm_node.specs.NodeState.{counted}
-use Rattle.farm_node.specs.Node.{plain_of}
-use Rattle.farm_node.proofs.Counts.{lengths, versions_are, objects_are, none_counted, count_begins, count_more, count_ends}
-use Rattle.farm_node.proofs.Sweeping.{placed_by, no_regions}
+use Rattle.farm_node.proofs.Common.{sym, refl, ap, ◌∙◌, arith, values, occupancy_of, counted, plain_of}
+use Rattle.farm_node.proofs.Counts.{lengths, versions_are, objects_are, count_ends}
+use Rattle.farm_node.proofs.Sweeping.{placed_by}
 use Rattle.farm_node.proofs.node.Node.counts.Goals as goal
-
-pub returns-then-regions-eq0-clause-objects : goal.returns-then-regions-eq0-clause-objects
-returns-then-regions-eq0-clause-objects c =
-    sym (ap counted (none_counted (plain_of c.args.self.now) (no_regions c.regions.result (occupancy_of c.args.self.now.places).regions c.regions.ensures.count c.if-regions-eq0.true)).0)
-
-pub returns-then-regions-eq0-clause-versions : goal.returns-then-regions-eq0-clause-versions
-returns-then-regions-eq0-clause-versions c =
-    sym (ap counted (none_counted (plain_of c.args.self.now) (no_regions c.regions.result (occupancy_of c.args.self.now.places).regions c.regions.ensures.count c.if-regions-eq0.true)).1)
-
-pub loop-object-init : goal.loop-object-init
-loop-object-init c = record {
-  so = count_begins c.into_iter-object-iterator.result (values c.args.self.now.objects) (c.into_iter-object-iterator.ensures.into_iter_gives ∙ c.values-object-items.ensures.rest);
-  small = omega arith;
-}
-
-pub loop-object-preserved : goal.loop-object-preserved
-loop-object-preserved c = record {
-  so = count_more c.loop-object.object-iterator c.next.new.self c.in-Some.object.now c.loop-object.versions (lengths (values c.args.self.now.objects)) c.len.result c.saturating_add-versions.result
-      c.in-Some.ensures.steps c.loop-object.invariant.so c.len.ensures c.saturating_add-versions.ensures;
-  small = omega (arith, c.saturating_add-versions.ensures);
-}
 
 pub returns-clause-objects : goal.returns-clause-objects
 returns-clause-objects c =
-    let e = objects_are c.args.self.now.objects (plain_of c.args.self.now) refl c.values-object-items.ensures.ordered c.regions.ensures.sound.rising
+    let e = objects_are c.args.self.now.objects (occupancy_of c.args.self.now.places).regions c.values-object-items.ensures.ordered c.regions.ensures.sound.rising
     (placed_by (plain_of c.args.self.now) (occupancy_of c.args.self.now.places) c.regions.ensures.sound refl c.args.self.now.agrees) in
     let len = c.len-2.ensures.len in
     let fits = c.values-object-items.ensures.fits in
@@ -39,5 +14,5 @@ returns-clause-objects c =
 pub returns-clause-versions : goal.returns-clause-versions
 returns-clause-versions c =
     count_ends c.loop-object.object-iterator c.loop-object.versions (lengths (values c.args.self.now.objects)) c.in-None.ensures.steps.0 c.loop-object.invariant.so c.loop-object.invariant.small
-    ∙ sym (ap counted (versions_are c.args.self.now.objects (plain_of c.args.self.now) refl c.values-object-items.ensures.ordered c.regions.ensures.sound.rising
+    ∙ sym (ap counted (versions_are c.args.self.now.objects (occupancy_of c.args.self.now.places).regions c.values-object-items.ensures.ordered c.regions.ensures.sound.rising
     (placed_by (plain_of c.args.self.now) (occupancy_of c.args.self.now.places) c.regions.ensures.sound refl c.args.self.now.agrees)))

@@ -1,6 +1,4 @@
-use Rattle.std.proofs.Common.{◌≡◌, ◌+◌, ◌^◌, ◌<◌}
-use Rattle.std.specs.BTreeMap.{values}
-use Rattle.farm_node.specs.NodeState.{counted}
+use Rattle.farm_node.proofs.Common.{◌≡◌, ◌+◌, ◌^◌, ◌<◌, values, counted}
 use Rattle.farm_node.proofs.Counts.{lengths}
 use Rattle.farm_node.proofs.node.Node.counts.Given as goal
 

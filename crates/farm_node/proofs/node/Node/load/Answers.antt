@@ -1,8 +1,5 @@
-use Rattle.std.proofs.Common.{◌≡◌, ℕ, refl, sym, subst, take}
-use Rattle.std.specs.Vec.Iter.{into_iter_items}
-use Rattle.farm_node.specs.State.{with_objects, CanLoad}
-use Rattle.farm_node.specs.Node.{plain_of}
-use Rattle.farm_node.proofs.Loads.{IsLoading, loading_more, loading_front, loading_done, none_left, on_err}
+use Rattle.farm_node.proofs.Common.{◌≡◌, ℕ, take, sym, refl, ◌∙◌, subst, nil_from_length, into_iter_items, with_objects, CanLoad, plain_of}
+use Rattle.farm_node.proofs.Loads.{IsLoading, loading_more, loading_front, loading_done, on_err}
 use Rattle.farm_node.proofs.Standing.{loads}
 use Rattle.farm_node.proofs.node.Node.load.Goals as goal
 
@@ -10,17 +7,6 @@ pub loop-at-init : goal.loop-at-init
 loop-at-init c =
     let e = c.into_iter-at-iterator.ensures.into_iter_gives in
     record { can = subst (CanLoad (plain_of c.args.self.now)) (sym e.0) c.requires.places; state = refl; stamp = c.requires.stamp; all = sym e.0 }
-
-pub load_one-requires-clause-place : goal.load_one-requires-clause-place
-load_one-requires-clause-place c =
-    (subst (IsLoading (plain_of c.args.self.now) c.args.objects.items (plain_of c.loop-at.self) c.loop-at.yielded) c.in-Some.ensures.steps.0 c.loop-at.invariant).can.0
-
-pub load_one-requires-clause-free : goal.load_one-requires-clause-free
-load_one-requires-clause-free c =
-    (subst (IsLoading (plain_of c.args.self.now) c.args.objects.items (plain_of c.loop-at.self) c.loop-at.yielded) c.in-Some.ensures.steps.0 c.loop-at.invariant).can.1
-
-pub load_one-requires-clause-stamp : goal.load_one-requires-clause-stamp
-load_one-requires-clause-stamp c = c.loop-at.invariant.stamp
 
 pub loop-at-preserved : goal.loop-at-preserved
 loop-at-preserved c =
@@ -36,7 +22,7 @@ returns-in_err-load_one-clause-err c =
 pub returns-clause-ok : goal.returns-clause-ok
 returns-clause-ok c =
     loading_done (plain_of c.args.self.now) c.args.objects.items (plain_of c.loop-at.self) c.loop-at.yielded
-    (subst (IsLoading (plain_of c.args.self.now) c.args.objects.items (plain_of c.loop-at.self) c.loop-at.yielded) (none_left _ (into_iter_items c.loop-at.at-iterator) c.loop-at.at-iterator.rest.ok.0 c.in-None.ensures.steps.0) c.loop-at.invariant)
+    (subst (IsLoading (plain_of c.args.self.now) c.args.objects.items (plain_of c.loop-at.self) c.loop-at.yielded) (nil_from_length (into_iter_items c.loop-at.at-iterator) (sym c.loop-at.at-iterator.rest.ok.0 ∙ c.in-None.ensures.steps.0)) c.loop-at.invariant)
 
 pub returns-clause-begins : goal.returns-clause-begins
 returns-clause-begins c = λ m stands. loads c.args.self.now c.loop-at.self m c.args.objects.items stands c.requires.places (returns-clause-ok c)

@@ -1,5 +1,4 @@
-use Rattle.std.specs.Vec.Iter.{into_iter_items}
-use Rattle.farm_node.specs.Node.{plain_of}
+use Rattle.farm_node.proofs.Common.{into_iter_items, plain_of}
 use Rattle.farm_node.proofs.Loads.{IsLoading}
 use Rattle.farm_node.proofs.node.Node.load.Given as goal
 

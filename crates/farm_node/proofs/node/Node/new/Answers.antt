@@ -1,4 +1,4 @@
-use Rattle.object_region.specs.Regions.{occupancy_of}
+use Rattle.farm_node.proofs.Common.{occupancy_of}
 use Rattle.farm_node.proofs.CellMaps.{agrees_empty, tracked_empty}
 use Rattle.farm_node.proofs.node.Node.new.Goals as goal
 

@@ -1,13 +1,6 @@
-use Rattle.std.proofs.Common.{◌≤◌, ◌+◌, ◌-◌, refl, sym, subst, ap, ◌∙◌, arith}
-use Rattle.object_region.specs.Regions.{occupancy_of}
-use Rattle.farm_node.specs.Node.{plain_of}
-use Rattle.farm_node.proofs.Sweeping.{sweeping_begins, sweeping_more, sweeping_ends, empty_fixed, placed_by, no_regions, byte_is, byte_at_most_one}
+use Rattle.farm_node.proofs.Common.{◌+◌, ◌-◌, ◌≤◌, sym, refl, ap, ◌∙◌, subst, arith, occupancy_of, plain_of}
+use Rattle.farm_node.proofs.Sweeping.{sweeping_begins, sweeping_more, sweeping_ends, placed_by, byte_at_most_one}
 use Rattle.farm_node.proofs.node.Node.sweep.Goals as goal
-
-pub returns-then-regions-eq0-clause-swept : goal.returns-then-regions-eq0-clause-swept
-returns-then-regions-eq0-clause-swept c =
-    empty_fixed c.args.floor (plain_of c.args.self.now) (placed_by (plain_of c.args.self.now) (occupancy_of c.args.self.now.places) c.regions.ensures.sound refl c.args.self.now.agrees)
-    (no_regions c.regions.result (occupancy_of c.args.self.now.places).regions c.regions.ensures.count c.if-regions-eq0.true)
 
 pub loop-init : goal.loop-init
 loop-init c = record {
@@ -22,7 +15,7 @@ loop-preserved c = record {
   sweeping = sweeping_more c.args.floor (plain_of c.args.self.now) (plain_of c.loop.self) (plain_of c.sweep_next-removed.new.self) c.loop.self.touched.items c.sweep_next-removed.new.self.touched.items
       (c.len-count.result - c.loop.counter) (c.len-count.result - (c.loop.counter + 1)) c.loop.versions c.loop.objects c.sweep_next-removed.result c.saturating_add-versions.result (c.loop.objects + c.from-objects.result)
       c.loop.invariant.sweeping (omega arith) c.sweep_next-removed.ensures c.saturating_add-versions.ensures
-      (ap (λ n. c.loop.objects + n) (c.from-objects.ensures ∙ byte_is c.sweep_next-removed.result.1));
+      (ap (λ n. c.loop.objects + n) c.from-objects.ensures);
   few = let b : c.from-objects.result ≤ 1 = subst (λ n. n ≤ 1) (sym c.from-objects.ensures) (byte_at_most_one c.sweep_next-removed.result.1) in omega (arith, c.loop.invariant.few);
 }
 

@@ -1,5 +1,4 @@
-use Rattle.std.proofs.Common.{◌-◌, ◌≤◌}
-use Rattle.farm_node.specs.Node.{plain_of}
+use Rattle.farm_node.proofs.Common.{◌-◌, ◌≤◌, plain_of}
 use Rattle.farm_node.proofs.Sweeping.{IsSweeping}
 use Rattle.farm_node.proofs.node.Node.sweep.Given as goal
 

@@ -1,11 +1,5 @@
-use Rattle.std.proofs.Common.{◌≡◌, List, [], ◌∷◌, sym, subst, refl, arith}
-use Rattle.a1_base.specs.declared.place.Addr.{Addr}
+use Rattle.farm_node.proofs.Common.{◌≡◌, List, [], ◌∷◌, sym, refl, subst, arith, Addr, Start, Bytes, NodeState, begun, CanLoad, plain_of}
 use Rattle.object_region.specs.Occupancy.{width, region_count}
-use Rattle.farm_node.specs.declared.entry.Start.{Start}
-use Rattle.farm_node.specs.Cell.{Bytes}
-use Rattle.farm_node.specs.NodeState.{NodeState, begun}
-use Rattle.farm_node.specs.State.{CanLoad}
-use Rattle.farm_node.specs.Node.{plain_of}
 use Rattle.farm_node.proofs.node.tests.node_of_two.Goals as goal
 
 abbrev start : Start

@@ -1,6 +1,4 @@
-use Rattle.std.proofs.Common.{◌≡◌, ◌<◌, Some, sym, ◌∙◌, arith}
-use Rattle.std.proofs.lemmas.Bool.{ltb-true}
-use Rattle.farm_node.specs.declared.hold.Hold.{Hold}
+use Rattle.farm_node.proofs.Common.{◌≡◌, ◌<◌, Some, sym, ◌∙◌, arith, ltb-true, Hold}
 use Rattle.farm_node.proofs.Holders.{has_lock_to}
 use Rattle.farm_node.proofs.node.tests.playing.may_put.Goals as goal
 
