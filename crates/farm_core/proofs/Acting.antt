@@ -9,28 +9,28 @@ use Rattle.object_region.specs.Occupancy.{LeastFree, IsSpent}
 use Rattle.farm_node.specs.declared.hold.Hold.{Hold}
 use Rattle.farm_node.specs.declared.node.Node.{Node}
 use Rattle.farm_node.specs.declared.entry.Found.{Found}
-use Rattle.farm_node.specs.declared.entry.Locked.{Locked as LockGiven}
-use Rattle.farm_node.specs.declared.entry.Placed.{Placed as Place}
+use Rattle.farm_node.specs.declared.entry.Locked.{Locked}
+use Rattle.farm_node.specs.declared.entry.Placed.{Placed}
 use Rattle.farm_node.specs.declared.entry.CheckFault.{CheckFault}
 use Rattle.farm_node.specs.declared.faults.ReadFault.{ReadFault}
-use Rattle.farm_node.specs.declared.faults.ReadFault.TheVariants.{Held as ReadHeld, Memory as NoReadMemory}
+use Rattle.farm_node.specs.declared.faults.ReadFault.TheVariants as reading_fault
 use Rattle.farm_node.specs.declared.faults.LockFault.{LockFault}
-use Rattle.farm_node.specs.declared.faults.LockFault.TheVariants.{Held as LockHeld, Changed as LockChanged, Memory as NoLockMemory}
+use Rattle.farm_node.specs.declared.faults.LockFault.TheVariants as locking_fault
 use Rattle.farm_node.specs.declared.entry.Entry.{Entry}
-use Rattle.farm_node.specs.declared.entry.Entry.TheVariants.{Read as ReadEntry, Alloc as AllocEntry, Lock as LockEntry, Check as CheckEntry, Put as PutEntry, Unlock as UnlockEntry}
+use Rattle.farm_node.specs.declared.entry.Entry.TheVariants as entry
 use Rattle.farm_node.specs.Cell.{Bytes, Cell, read_answer, lock_answer, check_answer}
 use Rattle.farm_node.specs.NodeState.{NodeState, PinnedBy, HeldBy, MayLock, MayPut, Adds, occupancy}
 use Rattle.a1_base.specs.Stamps.{IsStamp}
 use Rattle.farm_node.specs.Node.{plain_of}
 use Rattle.farm_node.specs.Story.{story}
 use Rattle.farm_node.specs.Answers.{read_entry, lock_entry, AddsIfMade}
-use Rattle.farm_core.specs.declared.event.Event.TheVariants.{Read, Alloc, Lock, Draw, Check, Put, Unlock}
+use Rattle.farm_core.specs.declared.event.Event.TheVariants as event
 use Rattle.farm_core.specs.declared.event.Answer.{Answer}
-use Rattle.farm_core.specs.declared.event.Answer.TheVariants.{Held as HeldBack, Placed, Spent, Locked, Stamp, Same, Put as Installed, Unlocked}
+use Rattle.farm_core.specs.declared.event.Answer.TheVariants as answer
 use Rattle.farm_core.specs.declared.active.Phase.TheVariants as phase
 use Rattle.farm_core.specs.declared.active.Active.{Active}
 use Rattle.farm_core.specs.declared.reads.ReadMarks.{ReadMarks}
-use Rattle.farm_core.specs.Machine.{Reading, Drawn, Installing, Refused, Transaction, in_stage, drawn_at, with_read, with_locked, with_same, State, home, node_at, node_of, adding, moving, IsAt, HoldsLockAt, found_answer, fault_answer, Reads as ReadsAt, Locks, Checks}
+use Rattle.farm_core.specs.Machine.{Reading, Drawn, Installing, Refused, Transaction, in_stage, drawn_at, with_read, with_locked, with_same, State, home, node_at, node_of, adding, moving, IsAt, HoldsLockAt, found_answer, fault_answer, Reads, Locks, Checks}
 use Rattle.farm_core.specs.ReadSet.{reading, checked}
 use Rattle.farm_core.specs.ReadSets.{read_set}
 use Rattle.farm_core.specs.Standing.{Reached, NodesStand, StandsOpen, in_list, is_unchecked, At, Aside, AtClock, Acted, stage_of, read_fault, lock_fault}
@@ -98,7 +98,7 @@ module _ (s : State) (r : Reached s) (t : TxnId) (x : Active) (nodes : List Node
 
   -- draw
 
-  pub draw_spent : (clock : ℕ) → clock ≡ s.clock → clock ≡ LAST_STAMP → Acted t s (Draw t) (Ok Spent) (AtClock (record x { phase = phase.Refused }) nodes clock t)
+  pub draw_spent : (clock : ℕ) → clock ≡ s.clock → clock ≡ LAST_STAMP → Acted t s (event.Draw t) (Ok answer.Spent) (AtClock (record x { phase = phase.Refused }) nodes clock t)
   draw_spent clock is full = (
     moving t (in_stage Refused) s,
     inr (sym is ∙ full, (refl, refl)),
@@ -107,10 +107,10 @@ module _ (s : State) (r : Reached s) (t : TxnId) (x : Active) (nodes : List Node
   )
 
   pub draw_stamp : (clock : ℕ) → clock ≡ s.clock → clock ≢ LAST_STAMP
-      → Acted t s (Draw t) (Ok (Stamp (clock + 1))) (AtClock (record x { phase = phase.Drawn; write_stamp = clock + 1 }) nodes (clock + 1) t)
+      → Acted t s (event.Draw t) (Ok (answer.Stamp (clock + 1))) (AtClock (record x { phase = phase.Drawn; write_stamp = clock + 1 }) nodes (clock + 1) t)
   draw_stamp clock is more = (
     drawn,
-    inl (less, (ap (λ (n : ℕ). Stamp (n + 1)) is, refl)),
+    inl (less, (ap (λ (n : ℕ). answer.Stamp (n + 1)) is, refl)),
     record { nodes = refl; begins = refl; loading = refl; others = λ u other. other_stays t u (drawn_at (s.clock + 1) y) s.transactions other; held = λ u a other held. held },
     record {
       standing = record {
@@ -170,38 +170,38 @@ module _ (s : State) (r : Reached s) (t : TxnId) (x : Active) (nodes : List Node
     -- check
 
     module _ (v : Node) where
-      check_adds : (result : Result (Unit {0}) CheckFault) → Adds (plain_of old) (CheckEntry t a x.read_stamp x.write_stamp result) (plain_of v)
-          → Adds (plain_of old) (CheckEntry t a y.read_stamp y.write_stamp result) (plain_of v)
-      check_adds result adds = subst (λ (z : ℕ × ℕ). Adds (plain_of old) (CheckEntry t a z.0 z.1 result) (plain_of v)) (λ i. (at.active.read_stamp i, at.active.write_stamp i)) adds
+      check_adds : (result : Result (Unit {0}) CheckFault) → Adds (plain_of old) (entry.Check t a x.read_stamp x.write_stamp result) (plain_of v)
+          → Adds (plain_of old) (entry.Check t a y.read_stamp y.write_stamp result) (plain_of v)
+      check_adds result adds = subst (λ (z : ℕ × ℕ). Adds (plain_of old) (entry.Check t a z.0 z.1 result) (plain_of v)) (λ i. (at.active.read_stamp i, at.active.write_stamp i)) adds
 
-      check_due : (result : Result (Unit {0}) CheckFault) → Adds (plain_of old) (CheckEntry t a x.read_stamp x.write_stamp result) (plain_of v)
+      check_due : (result : Result (Unit {0}) CheckFault) → Adds (plain_of old) (entry.Check t a x.read_stamp x.write_stamp result) (plain_of v)
           → result ≡ check_answer y.read_stamp ((node_of s a).cells a)
       check_due result adds = adds.fits.due ∙ (λ i. check_answer (at.active.read_stamp i) ((here i).cells a))
 
-      pub check_same : (reads : ReadMarks) → Adds (plain_of old) (CheckEntry t a x.read_stamp x.write_stamp (Ok tt)) (plain_of v) → read_set reads ≡ checked a (read_set x.reads)
-          → Acted t s (Check t a) (Ok Same) (λ later. At (record x { reads = reads }) (set nodes n v) t later × (later.clock ≡ s.clock))
+      pub check_same : (reads : ReadMarks) → Adds (plain_of old) (entry.Check t a x.read_stamp x.write_stamp (Ok tt)) (plain_of v) → read_set reads ≡ checked a (read_set x.reads)
+          → Acted t s (event.Check t a) (Ok answer.Same) (λ later. At (record x { reads = reads }) (set nodes n v) t later × (later.clock ≡ s.clock))
       check_same reads adds sets = (
         later,
-        subst (λ (z : Result (Unit {0}) CheckFault). Checks s t a y.read_stamp y.write_stamp z Same later) (check_due (Ok tt) adds) (refl, refl),
+        subst (λ (z : Result (Unit {0}) CheckFault). Checks s t a y.read_stamp y.write_stamp z answer.Same later) (check_due (Ok tt) adds) (refl, refl),
         aside_none e (with_same a) (λ u b takes. takes),
         (changed v e (with_same a) (record x { reads = reads }) (check_adds (Ok tt) adds) (λ u b takes. takes) (open_same x y at.active a reads sets) refl, refl),
       ) where
         e : Entry
-        e = CheckEntry t a y.read_stamp y.write_stamp (Ok tt)
+        e = entry.Check t a y.read_stamp y.write_stamp (Ok tt)
 
         later : State
         later = moving t (with_same a) (adding (home s a) e s)
 
-      pub check_refused : (fault : CheckFault) (answer : Answer) → answer ≡ fault_answer fault → Adds (plain_of old) (CheckEntry t a x.read_stamp x.write_stamp (Err fault)) (plain_of v)
-          → Acted t s (Check t a) (Ok answer) (λ later. At (record x { phase = phase.Refused }) (set nodes n v) t later × (later.clock ≡ s.clock))
-      check_refused fault answer says adds = (
+      pub check_refused : (fault : CheckFault) (told : Answer) → told ≡ fault_answer fault → Adds (plain_of old) (entry.Check t a x.read_stamp x.write_stamp (Err fault)) (plain_of v)
+          → Acted t s (event.Check t a) (Ok told) (λ later. At (record x { phase = phase.Refused }) (set nodes n v) t later × (later.clock ≡ s.clock))
+      check_refused fault told says adds = (
         later,
-        subst (λ (z : Result (Unit {0}) CheckFault). Checks s t a y.read_stamp y.write_stamp z answer later) (check_due (Err fault) adds) (says, refl),
+        subst (λ (z : Result (Unit {0}) CheckFault). Checks s t a y.read_stamp y.write_stamp z told later) (check_due (Err fault) adds) (says, refl),
         aside_none e (in_stage Refused) (λ u b takes. takes),
         (changed v e (in_stage Refused) (record x { phase = phase.Refused }) (check_adds (Err fault) adds) (λ u b takes. takes) (open_staged x y at.active phase.Refused) refl, refl),
       ) where
         e : Entry
-        e = CheckEntry t a y.read_stamp y.write_stamp (Err fault)
+        e = entry.Check t a y.read_stamp y.write_stamp (Err fault)
 
         later : State
         later = moving t (in_stage Refused) (adding (home s a) e s)
@@ -227,44 +227,44 @@ module _ (s : State) (r : Reached s) (t : TxnId) (x : Active) (nodes : List Node
           (holding (subst (λ (l : Option Hold). HasLock t l) (sym has.3) has.4)).low drawn
 
     module _ (v : Node) where
-      pub put_acts : Adds (plain_of old) (PutEntry t a x.write_stamp) (plain_of v)
-          → Acted t s (Put t a) (Ok Installed) (λ later. At (record x { phase = phase.Installing }) (set nodes n v) t later × (later.clock ≡ s.clock))
+      pub put_acts : Adds (plain_of old) (entry.Put t a x.write_stamp) (plain_of v)
+          → Acted t s (event.Put t a) (Ok answer.Put) (λ later. At (record x { phase = phase.Installing }) (set nodes n v) t later × (later.clock ≡ s.clock))
       put_acts adds =
-          let e : Entry = PutEntry t a y.write_stamp in
-          let adds_it : Adds (plain_of old) e (plain_of v) = subst (λ (w : ℕ). Adds (plain_of old) (PutEntry t a w) (plain_of v)) at.active.write_stamp adds in (
+          let e : Entry = entry.Put t a y.write_stamp in
+          let adds_it : Adds (plain_of old) e (plain_of v) = subst (λ (w : ℕ). Adds (plain_of old) (entry.Put t a w) (plain_of v)) at.active.write_stamp adds in (
             moving t (in_stage Installing) (adding (home s a) e s),
             (refl, refl),
             aside_none e (in_stage Installing) (λ u b takes. takes),
             (changed v e (in_stage Installing) (record x { phase = phase.Installing }) adds_it (λ u b takes. takes) (open_staged x y at.active phase.Installing) refl, refl),
           )
 
-      pub unlock_acts : Adds (plain_of old) (UnlockEntry t a) (plain_of v)
-          → Acted t s (Unlock t a) (Ok Unlocked) (λ later. At (record x { phase = phase.Refused }) (set nodes n v) t later × (later.clock ≡ s.clock))
+      pub unlock_acts : Adds (plain_of old) (entry.Unlock t a) (plain_of v)
+          → Acted t s (event.Unlock t a) (Ok answer.Unlocked) (λ later. At (record x { phase = phase.Refused }) (set nodes n v) t later × (later.clock ≡ s.clock))
       unlock_acts adds = (
-        moving t (in_stage Refused) (adding (home s a) (UnlockEntry t a) s),
+        moving t (in_stage Refused) (adding (home s a) (entry.Unlock t a) s),
         (refl, refl),
-        aside_none (UnlockEntry t a) (in_stage Refused) (λ u b takes. takes),
-        (changed v (UnlockEntry t a) (in_stage Refused) (record x { phase = phase.Refused }) adds (λ u b takes. takes) (open_staged x y at.active phase.Refused) refl, refl),
+        aside_none (entry.Unlock t a) (in_stage Refused) (λ u b takes. takes),
+        (changed v (entry.Unlock t a) (in_stage Refused) (record x { phase = phase.Refused }) adds (λ u b takes. takes) (open_staged x y at.active phase.Refused) refl, refl),
       )
 
     -- lock
 
     module _ (v : Node) (new copy : Option Bytes) (same : copy ≡ new) where
-      lock_adds : (result : Result LockGiven CheckFault) → Adds (plain_of old) (LockEntry t a x.read_stamp copy result) (plain_of v)
-          → Adds (plain_of old) (LockEntry t a y.read_stamp new result) (plain_of v)
-      lock_adds result adds = subst (λ (z : ℕ × Option Bytes). Adds (plain_of old) (LockEntry t a z.0 z.1 result) (plain_of v)) (λ i. (at.active.read_stamp i, same i)) adds
+      lock_adds : (result : Result Locked CheckFault) → Adds (plain_of old) (entry.Lock t a x.read_stamp copy result) (plain_of v)
+          → Adds (plain_of old) (entry.Lock t a y.read_stamp new result) (plain_of v)
+      lock_adds result adds = subst (λ (z : ℕ × Option Bytes). Adds (plain_of old) (entry.Lock t a z.0 z.1 result) (plain_of v)) (λ i. (at.active.read_stamp i, same i)) adds
 
-      lock_due : (result : Result LockGiven CheckFault) → Adds (plain_of old) (LockEntry t a x.read_stamp copy result) (plain_of v)
+      lock_due : (result : Result Locked CheckFault) → Adds (plain_of old) (entry.Lock t a x.read_stamp copy result) (plain_of v)
           → result ≡ lock_answer t y.read_stamp ((node_of s a).cells a)
       lock_due result adds = adds.fits.due ∙ (λ i. lock_answer t (at.active.read_stamp i) ((here i).cells a))
 
-      pub lock_given : (z : Active) (given : LockGiven) → Adds (plain_of old) (LockEntry t a x.read_stamp copy (Ok given)) (plain_of v)
+      pub lock_given : (z : Active) (given : Locked) → Adds (plain_of old) (entry.Lock t a x.read_stamp copy (Ok given)) (plain_of v)
           → (z.phase ≡ x.phase) × (z.read_stamp ≡ x.read_stamp) × (z.write_stamp ≡ x.write_stamp) → read_set z.reads ≡ checked a (read_set x.reads)
           → z.locked.items ≡ x.locked.items ++ a ∷ []
-          → Acted t s (Lock t a new) (Ok (Locked given.seen given.bound)) (λ later. At z (set nodes n v) t later × (later.clock ≡ s.clock))
+          → Acted t s (event.Lock t a new) (Ok (answer.Locked given.seen given.bound)) (λ later. At z (set nodes n v) t later × (later.clock ≡ s.clock))
       lock_given z given adds like sets more = (
         later,
-        subst (λ (w : Result LockGiven CheckFault). Locks s t a y.read_stamp new w (Locked given.seen given.bound) later) (lock_due (Ok given) adds) (refl, refl),
+        subst (λ (w : Result Locked CheckFault). Locks s t a y.read_stamp new w (answer.Locked given.seen given.bound) later) (lock_due (Ok given) adds) (refl, refl),
         aside_moved s g t (home s a) e (less_home s g a) (with_locked a) (λ u b takes. takes.0),
         (
           at_moved s g t (home s a) e (less_home s g a) (with_locked a) z (set nodes n v) (written v e (lock_adds (Ok given) adds)) (open_locked x y at.active a z like sets more)
@@ -276,40 +276,40 @@ module _ (s : State) (r : Reached s) (t : TxnId) (x : Active) (nodes : List Node
         ),
       ) where
         e : Entry
-        e = LockEntry t a y.read_stamp new (Ok given)
+        e = entry.Lock t a y.read_stamp new (Ok given)
 
         later : State
         later = moving t (with_locked a) (adding (home s a) e s)
 
       fault_gives : (fault : LockFault) (why : CheckFault) → lock_fault fault ≡ Ok why → AddsIfMade (plain_of old) (lock_entry t a x.read_stamp copy (Err fault)) (plain_of v)
-          → Adds (plain_of old) (LockEntry t a x.read_stamp copy (Err why)) (plain_of v)
-      fault_gives (LockHeld by) why is gives = subst (λ (w : Result CheckFault Memory). elim w as (λ _. Type 0) [ Ok f ↦ Adds (plain_of old) (LockEntry t a x.read_stamp copy (Err f)) (plain_of v) | Err m ↦ Unit {0} ]) is gives
-      fault_gives (LockChanged seen now) why is gives = subst (λ (w : Result CheckFault Memory). elim w as (λ _. Type 0) [ Ok f ↦ Adds (plain_of old) (LockEntry t a x.read_stamp copy (Err f)) (plain_of v) | Err m ↦ Unit {0} ]) is gives
-      fault_gives NoLockMemory why is gives = absurd (cc)
+          → Adds (plain_of old) (entry.Lock t a x.read_stamp copy (Err why)) (plain_of v)
+      fault_gives (locking_fault.Held by) why is gives = subst (λ (w : Result CheckFault Memory). elim w as (λ _. Type 0) [ Ok f ↦ Adds (plain_of old) (entry.Lock t a x.read_stamp copy (Err f)) (plain_of v) | Err m ↦ Unit {0} ]) is gives
+      fault_gives (locking_fault.Changed seen now) why is gives = subst (λ (w : Result CheckFault Memory). elim w as (λ _. Type 0) [ Ok f ↦ Adds (plain_of old) (entry.Lock t a x.read_stamp copy (Err f)) (plain_of v) | Err m ↦ Unit {0} ]) is gives
+      fault_gives locking_fault.Memory why is gives = absurd (cc)
 
-      pub lock_refused : (z : Active) (fault : LockFault) (why : CheckFault) (answer : Answer) → lock_fault fault ≡ Ok why → answer ≡ fault_answer why
+      pub lock_refused : (z : Active) (fault : LockFault) (why : CheckFault) (told : Answer) → lock_fault fault ≡ Ok why → told ≡ fault_answer why
           → AddsIfMade (plain_of old) (lock_entry t a x.read_stamp copy (Err fault)) (plain_of v) → stage_of z.phase ≡ Refused
           → (z.read_stamp ≡ x.read_stamp) × (z.write_stamp ≡ x.write_stamp) → read_set z.reads ≡ read_set x.reads → z.locked.items ≡ x.locked.items
-          → Acted t s (Lock t a new) (Ok answer) (λ later. At z (set nodes n v) t later × (later.clock ≡ s.clock))
-      lock_refused z fault why answer is says gives stage stamps sets locked = (
+          → Acted t s (event.Lock t a new) (Ok told) (λ later. At z (set nodes n v) t later × (later.clock ≡ s.clock))
+      lock_refused z fault why told is says gives stage stamps sets locked = (
         later,
-        subst (λ (w : Result LockGiven CheckFault). Locks s t a y.read_stamp new w answer later) (lock_due (Err why) adds) (says, refl),
+        subst (λ (w : Result Locked CheckFault). Locks s t a y.read_stamp new w told later) (lock_due (Err why) adds) (says, refl),
         aside_none e (in_stage Refused) (λ u b takes. takes),
         (changed v e (in_stage Refused) z (lock_adds (Err why) adds) (λ u b takes. takes) (open_like x y at.active z Refused stage stamps sets locked) locked, refl),
       ) where
         e : Entry
-        e = LockEntry t a y.read_stamp new (Err why)
+        e = entry.Lock t a y.read_stamp new (Err why)
 
         later : State
         later = moving t (in_stage Refused) (adding (home s a) e s)
 
-        adds : Adds (plain_of old) (LockEntry t a x.read_stamp copy (Err why)) (plain_of v)
+        adds : Adds (plain_of old) (entry.Lock t a x.read_stamp copy (Err why)) (plain_of v)
         adds = fault_gives fault why is gives
 
       no_lock_memory : (fault : LockFault) (m : Memory) → lock_fault fault ≡ Err m → AddsIfMade (plain_of old) (lock_entry t a x.read_stamp copy (Err fault)) (plain_of v) → plain_of v ≡ plain_of old
-      no_lock_memory (LockHeld by) m is gives = absurd (cc)
-      no_lock_memory (LockChanged seen now) m is gives = absurd (cc)
-      no_lock_memory NoLockMemory m is same = same
+      no_lock_memory (locking_fault.Held by) m is gives = absurd (cc)
+      no_lock_memory (locking_fault.Changed seen now) m is gives = absurd (cc)
+      no_lock_memory locking_fault.Memory m is same = same
 
       pub lock_failed : (z : Active) (fault : LockFault) (m : Memory) → lock_fault fault ≡ Err m → AddsIfMade (plain_of old) (lock_entry t a x.read_stamp copy (Err fault)) (plain_of v)
           → z.phase ≡ x.phase → (z.read_stamp ≡ x.read_stamp) × (z.write_stamp ≡ x.write_stamp) → read_set z.reads ≡ read_set x.reads → z.locked.items ≡ x.locked.items
@@ -327,40 +327,40 @@ module _ (s : State) (r : Reached s) (t : TxnId) (x : Active) (nodes : List Node
 
     module _ (going : IsAt Reading s t) (free : HoldsLockAt s t a → ⊥) where
       module _ (v : Node) where
-        read_adds : (result : Result Found TxnId) → Adds (plain_of old) (ReadEntry t.actor a x.read_stamp result) (plain_of v)
-            → Adds (plain_of old) (ReadEntry t.actor a y.read_stamp result) (plain_of v)
-        read_adds result adds = subst (λ (r : ℕ). Adds (plain_of old) (ReadEntry t.actor a r result) (plain_of v)) at.active.read_stamp adds
+        read_adds : (result : Result Found TxnId) → Adds (plain_of old) (entry.Read t.actor a x.read_stamp result) (plain_of v)
+            → Adds (plain_of old) (entry.Read t.actor a y.read_stamp result) (plain_of v)
+        read_adds result adds = subst (λ (r : ℕ). Adds (plain_of old) (entry.Read t.actor a r result) (plain_of v)) at.active.read_stamp adds
 
-        read_due : (result : Result Found TxnId) → Adds (plain_of old) (ReadEntry t.actor a x.read_stamp result) (plain_of v)
+        read_due : (result : Result Found TxnId) → Adds (plain_of old) (entry.Read t.actor a x.read_stamp result) (plain_of v)
             → result ≡ read_answer y.read_stamp ((node_of s a).cells a)
         read_due result adds = adds.fits.2 ∙ (λ i. read_answer (at.active.read_stamp i) ((here i).cells a))
 
-        pub read_found : (reads : ReadMarks) (found : Found) (answer : Answer) → answer ≡ found_answer found → read_set reads ≡ reading a (read_set x.reads)
-            → Adds (plain_of old) (ReadEntry t.actor a x.read_stamp (Ok found)) (plain_of v)
-            → Acted t s (Read t a) (Ok answer) (λ later. At (record x { reads = reads }) (set nodes n v) t later × (later.clock ≡ s.clock))
-        read_found reads found answer says sets adds = (
+        pub read_found : (reads : ReadMarks) (found : Found) (told : Answer) → told ≡ found_answer found → read_set reads ≡ reading a (read_set x.reads)
+            → Adds (plain_of old) (entry.Read t.actor a x.read_stamp (Ok found)) (plain_of v)
+            → Acted t s (event.Read t a) (Ok told) (λ later. At (record x { reads = reads }) (set nodes n v) t later × (later.clock ≡ s.clock))
+        read_found reads found told says sets adds = (
           later,
-          subst (λ (w : Result Found TxnId). ReadsAt s t a y.read_stamp w answer later) (read_due (Ok found) adds) (says, refl),
+          subst (λ (w : Result Found TxnId). Reads s t a y.read_stamp w told later) (read_due (Ok found) adds) (says, refl),
           aside_none e (with_read a) (λ u b takes. takes),
           (changed v e (with_read a) (record x { reads = reads }) (read_adds (Ok found) adds) (λ u b takes. takes) (open_read x y at.active a reads (unlocked a going free) (unfound a going free) sets) refl, refl),
         ) where
           e : Entry
-          e = ReadEntry t.actor a y.read_stamp (Ok found)
+          e = entry.Read t.actor a y.read_stamp (Ok found)
 
           later : State
           later = moving t (with_read a) (adding (home s a) e s)
 
         held_gives : (fault : ReadFault) (by : TxnId) → read_fault fault ≡ Ok by → AddsIfMade (plain_of old) (read_entry t.actor a x.read_stamp (Err fault)) (plain_of v)
-            → Adds (plain_of old) (ReadEntry t.actor a x.read_stamp (Err by)) (plain_of v)
-        held_gives (ReadHeld who) by is gives = subst (λ (w : Result TxnId Memory). elim w as (λ _. Type 0) [ Ok u ↦ Adds (plain_of old) (ReadEntry t.actor a x.read_stamp (Err u)) (plain_of v) | Err m ↦ Unit {0} ]) is gives
-        held_gives NoReadMemory by is gives = absurd (cc)
+            → Adds (plain_of old) (entry.Read t.actor a x.read_stamp (Err by)) (plain_of v)
+        held_gives (reading_fault.Held who) by is gives = subst (λ (w : Result TxnId Memory). elim w as (λ _. Type 0) [ Ok u ↦ Adds (plain_of old) (entry.Read t.actor a x.read_stamp (Err u)) (plain_of v) | Err m ↦ Unit {0} ]) is gives
+        held_gives reading_fault.Memory by is gives = absurd (cc)
 
         pub read_held : (reads : ReadMarks) (fault : ReadFault) (by : TxnId) → read_fault fault ≡ Ok by → read_set reads ≡ read_set x.reads
             → AddsIfMade (plain_of old) (read_entry t.actor a x.read_stamp (Err fault)) (plain_of v)
-            → Acted t s (Read t a) (Ok (HeldBack by)) (λ later. At (record x { reads = reads }) (set nodes n v) t later × (later.clock ≡ s.clock))
+            → Acted t s (event.Read t a) (Ok (answer.Held by)) (λ later. At (record x { reads = reads }) (set nodes n v) t later × (later.clock ≡ s.clock))
         read_held reads fault by is sets gives = (
           adding (home s a) e s,
-          subst (λ (w : Result Found TxnId). ReadsAt s t a y.read_stamp w (HeldBack by) (adding (home s a) e s)) (read_due (Err by) adds) (refl, refl),
+          subst (λ (w : Result Found TxnId). Reads s t a y.read_stamp w (answer.Held by) (adding (home s a) e s)) (read_due (Err by) adds) (refl, refl),
           aside_added s g t (home s a) e (less_home s g a) (λ u b takes. absurd takes),
           (
             at_added s g t (home s a) e (less_home s g a) (record x { reads = reads }) (set nodes n v) (written v e (read_adds (Err by) adds))
@@ -370,14 +370,14 @@ module _ (s : State) (r : Reached s) (t : TxnId) (x : Active) (nodes : List Node
           ),
         ) where
           e : Entry
-          e = ReadEntry t.actor a y.read_stamp (Err by)
+          e = entry.Read t.actor a y.read_stamp (Err by)
 
-          adds : Adds (plain_of old) (ReadEntry t.actor a x.read_stamp (Err by)) (plain_of v)
+          adds : Adds (plain_of old) (entry.Read t.actor a x.read_stamp (Err by)) (plain_of v)
           adds = held_gives fault by is gives
 
         no_read_memory : (fault : ReadFault) (m : Memory) → read_fault fault ≡ Err m → AddsIfMade (plain_of old) (read_entry t.actor a x.read_stamp (Err fault)) (plain_of v) → plain_of v ≡ plain_of old
-        no_read_memory (ReadHeld who) m is gives = absurd (cc)
-        no_read_memory NoReadMemory m is same = same
+        no_read_memory (reading_fault.Held who) m is gives = absurd (cc)
+        no_read_memory reading_fault.Memory m is same = same
 
         pub read_failed : (reads : ReadMarks) (fault : ReadFault) (m : Memory) → read_fault fault ≡ Err m → read_set reads ≡ read_set x.reads
             → AddsIfMade (plain_of old) (read_entry t.actor a x.read_stamp (Err fault)) (plain_of v)
@@ -403,13 +403,13 @@ module _ (s : State) (r : Reached s) (t : TxnId) (x : Active) (nodes : List Node
     given_is : plain_of given ≡ node_at s n
     given_is = old_is s g nodes at.nodes_stand n d d is_node
 
-    pub alloc_placed : (z : Active) (placed : Place) → Adds (plain_of given) (AllocEntry t x.read_stamp copy placed) (plain_of v)
+    pub alloc_placed : (z : Active) (placed : Placed) → Adds (plain_of given) (entry.Alloc t x.read_stamp copy placed) (plain_of v)
         → (z.phase ≡ x.phase) × (z.read_stamp ≡ x.read_stamp) × (z.write_stamp ≡ x.write_stamp) → read_set z.reads ≡ checked placed.at (read_set x.reads)
         → z.locked.items ≡ x.locked.items ++ placed.at ∷ []
-        → Acted t s (Alloc t n bytes) (Ok (Placed placed.at placed.bound)) (λ later. At z (set nodes n v) t later × (later.clock ≡ s.clock))
+        → Acted t s (event.Alloc t n bytes) (Ok (answer.Placed placed.at placed.bound)) (λ later. At z (set nodes n v) t later × (later.clock ≡ s.clock))
     alloc_placed z placed adds like sets more = (
       later,
-      inl (placed.at, subst (λ (p : NodeState). LeastFree (occupancy p) placed.at) given_is adds.fits.2, (ap (Placed placed.at) bound_is, refl)),
+      inl (placed.at, subst (λ (p : NodeState). LeastFree (occupancy p) placed.at) given_is adds.fits.2, (ap (answer.Placed placed.at) bound_is, refl)),
       aside_moved s g t n e is_node (with_locked placed.at) (λ u b takes. takes.0),
       (
         at_moved s g t n e is_node (with_locked placed.at) z (set nodes n v) (nodes_written s g nodes at.nodes_stand n d v is_node e adds_it) (open_locked x y at.active placed.at z like sets more)
@@ -424,17 +424,17 @@ module _ (s : State) (r : Reached s) (t : TxnId) (x : Active) (nodes : List Node
       bound_is = adds.fits.3 ∙ (λ i. max (given_is i).past (at.active.read_stamp i))
 
       e : Entry
-      e = AllocEntry t y.read_stamp bytes (record { at = placed.at; bound = max (node_at s n).past y.read_stamp })
+      e = entry.Alloc t y.read_stamp bytes (record { at = placed.at; bound = max (node_at s n).past y.read_stamp })
 
       later : State
       later = moving t (with_locked placed.at) (adding n e s)
 
       adds_it : Adds (plain_of given) e (plain_of v)
-      adds_it = subst (λ (w : ℕ × Bytes × ℕ). Adds (plain_of given) (AllocEntry t w.0 w.1 (record { at = placed.at; bound = w.2 })) (plain_of v)) (λ i. (at.active.read_stamp i, same i, bound_is i)) adds
+      adds_it = subst (λ (w : ℕ × Bytes × ℕ). Adds (plain_of given) (entry.Alloc t w.0 w.1 (record { at = placed.at; bound = w.2 })) (plain_of v)) (λ i. (at.active.read_stamp i, same i, bound_is i)) adds
 
     pub alloc_spent : (z : Active) → plain_of v ≡ plain_of given → IsSpent (occupancy (plain_of given)) → stage_of z.phase ≡ Refused
         → (z.read_stamp ≡ x.read_stamp) × (z.write_stamp ≡ x.write_stamp) → read_set z.reads ≡ read_set x.reads → z.locked.items ≡ x.locked.items
-        → Acted t s (Alloc t n bytes) (Ok Spent) (λ later. At z (set nodes n v) t later × (later.clock ≡ s.clock))
+        → Acted t s (event.Alloc t n bytes) (Ok answer.Spent) (λ later. At z (set nodes n v) t later × (later.clock ≡ s.clock))
     alloc_spent z still spent stage stamps sets locked = (
       moving t (in_stage Refused) s,
       inr (subst (λ (p : NodeState). IsSpent (occupancy p)) given_is spent, (refl, refl)),

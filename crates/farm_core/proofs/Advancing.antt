@@ -6,9 +6,9 @@ use Rattle.a1_base.specs.declared.place.TxnId.{TxnId}
 use Rattle.farm_node.specs.declared.node.Node.{Node}
 use Rattle.farm_node.specs.Cell.{Bytes}
 use Rattle.farm_core.specs.declared.event.Event.{Event}
-use Rattle.farm_core.specs.declared.event.Event.TheVariants.{Alloc, Draw}
+use Rattle.farm_core.specs.declared.event.Event.TheVariants as event
 use Rattle.farm_core.specs.declared.event.Answer.{Answer}
-use Rattle.farm_core.specs.declared.event.Answer.TheVariants.{No}
+use Rattle.farm_core.specs.declared.event.Answer.TheVariants as answer
 use Rattle.farm_core.specs.declared.active.Active.{Active}
 use Rattle.farm_core.specs.Machine.{State, Meets, InRange}
 use Rattle.farm_core.specs.Standing.{Reached, At, AtClock, Acted, Stepped, ActsOn, CanAct, CanActAt, IsOf, meets_in}
@@ -26,8 +26,8 @@ acted_is x z nodes after clock t u e f result is own acts s r at meets =
     acted_clock z after clock t s e result at.clock_is (moved s r at.standing meets)
 
 -- the same for a draw, which moves the clock
-pub drawn_is : (x z : Active) (nodes : List Node) (clock later_clock : ℕ) (t u : TxnId) (e : Event) (result : Result Answer Memory) → e ≡ Draw u → u ≡ t
-    → ((all : List Node) (s : State) → Reached s → AtClock x all clock u s → Meets s (Draw u) → Acted u s (Draw u) result (AtClock z all later_clock u))
+pub drawn_is : (x z : Active) (nodes : List Node) (clock later_clock : ℕ) (t u : TxnId) (e : Event) (result : Result Answer Memory) → e ≡ event.Draw u → u ≡ t
+    → ((all : List Node) (s : State) → Reached s → AtClock x all clock u s → Meets s (event.Draw u) → Acted u s (event.Draw u) result (AtClock z all later_clock u))
     → (s : State) → Reached s → AtClock x nodes clock t s → Meets s e → Acted t s e result (AtClock z nodes later_clock t)
 drawn_is x z nodes clock later_clock t u e result is own acts s r at meets =
     subst (λ (w : TxnId × Event). AtClock x nodes clock w.0 s → Meets s w.1 → Acted w.0 s w.1 result (AtClock z nodes later_clock w.0)) (λ i. (own i, sym is i)) (acts nodes s r) at meets
@@ -37,15 +37,15 @@ can_act x nodes clock u e f can is own =
     let same : u ≡ can.0 = own can.0 (subst (IsOf can.0) is can.2) in
     (can.1, can.3, subst (λ (t : TxnId). At x nodes t can.1) (sym same) can.4.standing, subst (Meets can.1) is can.5)
 
-pub can_draw : (x : Active) (nodes : List Node) (clock : ℕ) (u : TxnId) (e : Event) → CanActAt x nodes clock e → e ≡ Draw u
-    → (all : List Node) × (s : State) × Reached s × AtClock x all clock u s × Meets s (Draw u)
+pub can_draw : (x : Active) (nodes : List Node) (clock : ℕ) (u : TxnId) (e : Event) → CanActAt x nodes clock e → e ≡ event.Draw u
+    → (all : List Node) × (s : State) × Reached s × AtClock x all clock u s × Meets s (event.Draw u)
 can_draw x nodes clock u e can is =
     let same : u ≡ can.0 = subst (IsOf can.0) is can.2 in
     (nodes, can.1, can.3, subst (λ (t : TxnId). AtClock x nodes clock t can.1) (sym same) can.4, subst (Meets can.1) is can.5)
 
-pub node_is_there : (x : Active) (nodes : List Node) (clock : ℕ) (u : TxnId) (n : ℕ) (bytes : Bytes) (e : Event) → CanActAt x nodes clock e → e ≡ Alloc u n bytes → n < length nodes
+pub node_is_there : (x : Active) (nodes : List Node) (clock : ℕ) (u : TxnId) (n : ℕ) (bytes : Bytes) (e : Event) → CanActAt x nodes clock e → e ≡ event.Alloc u n bytes → n < length nodes
 node_is_there x nodes clock u n bytes e can is =
-    let range : InRange can.1.nodes (Alloc u n bytes) = subst (InRange can.1.nodes) is can.6 in
+    let range : InRange can.1.nodes (event.Alloc u n bytes) = subst (InRange can.1.nodes) is can.6 in
     let low : n < can.1.nodes = range.1 in
     let number : length nodes ≡ can.1.nodes = can.4.standing.nodes_stand.number in
     omega arith
@@ -67,7 +67,7 @@ module _ (x : Active) (nodes : List Node) (clock : ℕ) (t : TxnId) (e : Event) 
     by (Ok x) acted = (acted.0, inl (meets, acted.1), acted.2, acted.3)
     by (Err m) acted = acted
 
-  pub lacks : asked ≡ false → (s : State) → Reached s → AtClock x nodes clock t s → IsOf t e → Stepped t s e (Ok No) (AtClock x nodes clock t)
+  pub lacks : asked ≡ false → (s : State) → Reached s → AtClock x nodes clock t s → IsOf t e → Stepped t s e (Ok answer.No) (AtClock x nodes clock t)
   lacks fails s r at own = (
     s,
     inr (λ meets. both_ways asked fails (is ∙ (meets_iff s r t x nodes at.standing e own).1 meets), (refl, refl)),

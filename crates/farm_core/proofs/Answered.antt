@@ -5,14 +5,14 @@ use Rattle.a1_base.specs.declared.place.Addr.{Addr}
 use Rattle.a1_base.specs.declared.place.TxnId.{TxnId}
 use Rattle.farm_node.specs.declared.entry.Found.{Found}
 use Rattle.farm_node.specs.declared.entry.Entry.{Entry}
-use Rattle.farm_node.specs.declared.entry.Entry.TheVariants.{Read as ReadEntry}
+use Rattle.farm_node.specs.declared.entry.Entry.TheVariants as entry
 use Rattle.farm_node.specs.Cell.{Bytes, read_answer}
 use Rattle.farm_node.specs.Story.{stamped_bytes}
 use Rattle.farm_node.proofs.Sound.{txn_self}
 use Rattle.farm_core.specs.declared.event.Event.{Event}
-use Rattle.farm_core.specs.declared.event.Event.TheVariants.{Read}
+use Rattle.farm_core.specs.declared.event.Event.TheVariants as event
 use Rattle.farm_core.specs.declared.event.Answer.{Answer}
-use Rattle.farm_core.specs.declared.event.Answer.TheVariants.{Value, Absent}
+use Rattle.farm_core.specs.declared.event.Answer.TheVariants as answer
 use Rattle.farm_core.specs.Machine.{Unbegun, Reading, Transaction, State, home, node_of, adding, moving, with_read, IsAt, found_answer, Reads, Steps, Runs, fresh}
 use Rattle.farm_core.specs.Serial.{log_of, ValueStands, AnswerStands, EachAnswer, ReadsWhole}
 use Rattle.farm_core.proofs.Good.{Good, home_low}
@@ -24,16 +24,16 @@ use Rattle.farm_core.proofs.Grows.{Extends, Grows, grows_self, grows_twice, grow
 use Rattle.farm_core.proofs.Serial.{entered_stands}
 
 abbrev IsFound : Answer → Type 0
-IsFound (Value stamp bytes) = Unit {0}
-IsFound (Absent stamp) = Unit {0}
+IsFound (answer.Value stamp bytes) = Unit {0}
+IsFound (answer.Absent stamp) = Unit {0}
 IsFound x = ⊥
 
 -- the read is the last entry of its node's list
 record Entered (s : State) (t : TxnId) (a : Addr) (x : Answer) : Type 0 where
   found : Found
   before : List Entry
-  is : log_of s a ≡ before ++ ReadEntry t.actor a (s.transactions t).read_stamp (Ok found) ∷ []
-  answer : x ≡ found_answer found
+  is : log_of s a ≡ before ++ entry.Read t.actor a (s.transactions t).read_stamp (Ok found) ∷ []
+  told : x ≡ found_answer found
   begun : (s.transactions t).stage ≢ Unbegun
   going : s.loading ≡ false
 
@@ -43,7 +43,7 @@ module _ (s : State) (g : Good s) (t : TxnId) (a : Addr) (x : Answer) (next : St
 
   read_entered : (y : Result Found TxnId) → IsAt Reading s t → Reads s t a (s.transactions t).read_stamp y x next → IsFound x → Entered next t a x
   read_entered (Ok found) at acts shown =
-      let e : Entry = ReadEntry t.actor a (s.transactions t).read_stamp (Ok found) in
+      let e : Entry = entry.Read t.actor a (s.transactions t).read_stamp (Ok found) in
       let d : State = moving t (with_read a) (adding (home s a) e s) in
       let moved : d.transactions t ≡ with_read a (s.transactions t) = self (with_read a) (adding (home s a) e s) in
       let stage : (d.transactions t).stage ≡ Reading = ap (λ (z : Transaction). z.stage) moved ∙ at.1 in
@@ -51,14 +51,14 @@ module _ (s : State) (g : Good s) (t : TxnId) (a : Addr) (x : Answer) (next : St
         found = found;
         before = s.logs (home s a);
         is = now_at (home s a) (s.logs (home s a) ++ e ∷ []) s.logs
-            ∙ ap (λ (r : ℕ). s.logs (home s a) ++ ReadEntry t.actor a r (Ok found) ∷ []) (sym (ap (λ (z : Transaction). z.read_stamp) moved));
-        answer = acts.0;
+            ∙ ap (λ (r : ℕ). s.logs (home s a) ++ entry.Read t.actor a r (Ok found) ∷ []) (sym (ap (λ (z : Transaction). z.read_stamp) moved));
+        told = acts.0;
         begun = λ none. cc;
         going = started s g t at.0;
       })
   read_entered (Err by) at acts shown = absurd (subst IsFound acts.0 shown)
 
-  step_entered : Steps s (Read t a) x next → IsFound x → Entered next t a x
+  step_entered : Steps s (event.Read t a) x next → IsFound x → Entered next t a x
   step_entered step shown = ⊎_elim
       (λ done. read_entered (read_answer (s.transactions t).read_stamp ((node_of s a).cells a)) done.0.0 done.1 shown)
       (λ lacks. absurd (subst IsFound lacks.1.0 shown))
@@ -68,19 +68,19 @@ module _ (s : State) (g : Good s) (t : TxnId) (a : Addr) (x : Answer) (next : St
 
 value_stands : (s : State) (t : TxnId) (a : Addr) (stamp : ℕ) (value : Option Bytes)
     → ValueStands (log_of s a) a (s.transactions t).read_stamp (elim value as (λ _. Option (ℕ × Bytes)) [ None ↦ None | Some bytes ↦ Some (stamp, bytes) ])
-    → AnswerStands s (Read t a) (elim value as (λ _. Answer) [ None ↦ Absent stamp | Some bytes ↦ Value stamp bytes ])
+    → AnswerStands s (event.Read t a) (elim value as (λ _. Answer) [ None ↦ answer.Absent stamp | Some bytes ↦ answer.Value stamp bytes ])
 value_stands s t a stamp None stands = stands
 value_stands s t a stamp (Some bytes) stands = stands
 
-later_stands : (s d : State) (t : TxnId) (a : Addr) (x : Answer) → Grows s d → Good d → Entered s t a x → AnswerStands d (Read t a) x
+later_stands : (s d : State) (t : TxnId) (a : Addr) (x : Answer) → Grows s d → Good d → Entered s t a x → AnswerStands d (event.Read t a) x
 later_stands s d t a x grows g entered =
     let more : Extends (s.logs (home s a)) (d.logs (home s a)) = grows.logs (home s a) in
-    let e : Entry = ReadEntry t.actor a (s.transactions t).read_stamp (Ok entered.found) in
+    let e : Entry = entry.Read t.actor a (s.transactions t).read_stamp (Ok entered.found) in
     let is : log_of d a ≡ entered.before ++ e ∷ more.0 =
     ap (λ (n : ℕ). d.logs (a.region % n)) grows.nodes ∙ (more.1 ∙ (ap (λ (log : List Entry). log ++ more.0) entered.is ∙ append_assoc entered.before (e ∷ []) more.0)) in
     let stands : ValueStands (log_of d a) a (s.transactions t).read_stamp (stamped_bytes entered.found) =
     entered_stands (log_of d a) t.actor (s.transactions t).read_stamp a entered.found entered.before more.0 (g.base.lists (home d a) (home_low d a g.base.count.0)).lawful is in
-    subst (λ (y : Answer). AnswerStands d (Read t a) y) (sym entered.answer)
+    subst (λ (y : Answer). AnswerStands d (event.Read t a) y) (sym entered.told)
     (value_stands d t a entered.found.stamp entered.found.value
     (subst (λ (r : ℕ). ValueStands (log_of d a) a r (stamped_bytes entered.found)) (sym (grows.begun t entered.begun).1) stands))
 
@@ -94,12 +94,12 @@ grows_runs (e ∷ es) s (x ∷ xs) end g going runs =
     grows_twice s step.0 end first (grows_runs es step.0 xs end (good_step s e x step.0 g runs.0 step.1) first.started step.2)
 
 answer_stands : (s next end : State) (e : Event) (x : Answer) → Good s → Good end → Steps s e x next → (next.loading ≡ false → Grows next end) → AnswerStands end e x
-answer_stands s next end (Read t a) (Value stamp bytes) g good step grows =
-    let entered : Entered next t a (Value stamp bytes) = step_entered s g t a (Value stamp bytes) next step tt in
-    later_stands next end t a (Value stamp bytes) (grows entered.going) good entered
-answer_stands s next end (Read t a) (Absent stamp) g good step grows =
-    let entered : Entered next t a (Absent stamp) = step_entered s g t a (Absent stamp) next step tt in
-    later_stands next end t a (Absent stamp) (grows entered.going) good entered
+answer_stands s next end (event.Read t a) (answer.Value stamp bytes) g good step grows =
+    let entered : Entered next t a (answer.Value stamp bytes) = step_entered s g t a (answer.Value stamp bytes) next step tt in
+    later_stands next end t a (answer.Value stamp bytes) (grows entered.going) good entered
+answer_stands s next end (event.Read t a) (answer.Absent stamp) g good step grows =
+    let entered : Entered next t a (answer.Absent stamp) = step_entered s g t a (answer.Absent stamp) next step tt in
+    later_stands next end t a (answer.Absent stamp) (grows entered.going) good entered
 answer_stands s next end e x g good step grows = tt
 
 each_answer : (events : List Event) (s : State) (answers : List Answer) (end : State) → Good s → Good end → Runs s events answers end → EachAnswer (AnswerStands end) events answers

@@ -9,7 +9,7 @@ use Rattle.version_chain.specs.Versions.{Version, cut}
 use Rattle.farm_node.specs.declared.hold.Hold.{Hold}
 use Rattle.farm_node.specs.declared.node.Node.{Node}
 use Rattle.farm_node.specs.declared.entry.Entry.{Entry}
-use Rattle.farm_node.specs.declared.entry.Entry.TheVariants.{Made, Open, Shut, Read, Alloc, Lock, Check, Put, Unlock, Collect}
+use Rattle.farm_node.specs.declared.entry.Entry.TheVariants as entry
 use Rattle.farm_node.specs.Cell.{Bytes, Cell, same_txn, raised_to, locked_by, installed, released, goes, collected}
 use Rattle.farm_node.specs.NodeState.{NodeState, HeldBy, Adds, set_cell, new_floor, after, replay}
 use Rattle.farm_node.specs.Node.{plain_of}
@@ -29,8 +29,8 @@ good s r = good_run s.nodes r.2.0 r.2.1 s r.0 r.1 r.2.2
 
 -- the entry gives the transaction the lock
 abbrev pub Takes : TxnId → Addr → Entry → Type 0
-Takes u a (Alloc t r v placed) = (t ≡ u) × (placed.at ≡ a)
-Takes u a (Lock t b r new (Ok given)) = (t ≡ u) × (b ≡ a)
+Takes u a (entry.Alloc t r v placed) = (t ≡ u) × (placed.at ≡ a)
+Takes u a (entry.Lock t b r new (Ok given)) = (t ≡ u) × (b ≡ a)
 Takes u a e = ⊥
 
 pub held_holds : (p : NodeState) (t : TxnId) (a : Addr) → HeldBy p t a → Holds t (p.cells a)
@@ -76,19 +76,19 @@ module _ (u : TxnId) where
     by false holds = holds
 
   holds_after : (p : NodeState) (e : Entry) (a : Addr) → Holds u ((after p e).cells a) → Holds u (p.cells a) ⊎ Takes u a e
-  holds_after p (Made m) a holds = inl holds
-  holds_after p (Open k c x) a holds = inl holds
-  holds_after p (Shut k) a holds = inl holds
-  holds_after p (Read k b s (Ok found)) a holds = inl (kept_set b a (raised_to s (p.cells b)) p.cells (holds_raised s (p.cells b)) holds)
-  holds_after p (Read k b s (Err by)) a holds = inl holds
-  holds_after p (Alloc t r v placed) a holds = taken_set t placed.at a _ p.cells (λ has. has) holds
-  holds_after p (Lock t b r new (Ok given)) a holds = taken_set t b a (locked_by t new (p.cells b)) p.cells (holds_locked t new (p.cells b)) holds
-  holds_after p (Lock t b r new (Err fault)) a holds = inl holds
-  holds_after p (Check t b r w (Ok same)) a holds = inl (kept_set b a (raised_to w (p.cells b)) p.cells (holds_raised w (p.cells b)) holds)
-  holds_after p (Check t b r w (Err fault)) a holds = inl holds
-  holds_after p (Put t b w) a holds = inl (kept_set b a (installed w (p.cells b)) p.cells (holds_installed w (p.cells b) (p.cells b)) holds)
-  holds_after p (Unlock t b) a holds = inl (kept_set b a (released (p.cells b)) p.cells (holds_released (p.cells b) (p.cells b)) holds)
-  holds_after p (Collect k f removed) a holds = inl (holds_collected (new_floor p f) (p.cells a) holds)
+  holds_after p (entry.Made m) a holds = inl holds
+  holds_after p (entry.Open k c x) a holds = inl holds
+  holds_after p (entry.Shut k) a holds = inl holds
+  holds_after p (entry.Read k b s (Ok found)) a holds = inl (kept_set b a (raised_to s (p.cells b)) p.cells (holds_raised s (p.cells b)) holds)
+  holds_after p (entry.Read k b s (Err by)) a holds = inl holds
+  holds_after p (entry.Alloc t r v placed) a holds = taken_set t placed.at a _ p.cells (λ has. has) holds
+  holds_after p (entry.Lock t b r new (Ok given)) a holds = taken_set t b a (locked_by t new (p.cells b)) p.cells (holds_locked t new (p.cells b)) holds
+  holds_after p (entry.Lock t b r new (Err fault)) a holds = inl holds
+  holds_after p (entry.Check t b r w (Ok same)) a holds = inl (kept_set b a (raised_to w (p.cells b)) p.cells (holds_raised w (p.cells b)) holds)
+  holds_after p (entry.Check t b r w (Err fault)) a holds = inl holds
+  holds_after p (entry.Put t b w) a holds = inl (kept_set b a (installed w (p.cells b)) p.cells (holds_installed w (p.cells b) (p.cells b)) holds)
+  holds_after p (entry.Unlock t b) a holds = inl (kept_set b a (released (p.cells b)) p.cells (holds_released (p.cells b) (p.cells b)) holds)
+  holds_after p (entry.Collect k f removed) a holds = inl (holds_collected (new_floor p f) (p.cells a) holds)
 
   pub held_after : (p : NodeState) (e : Entry) (a : Addr) → HeldBy (after p e) u a → HeldBy p u a ⊎ Takes u a e
   held_after p e a held = ⊎_elim (λ holds. inl (holds_held p u a holds)) (λ takes. inr takes) (holds_after p e a (held_holds (after p e) u a held))

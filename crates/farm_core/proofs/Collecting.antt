@@ -5,14 +5,14 @@ use Rattle.a1_base.specs.declared.limits.TheConstants.{ACTOR_LIMIT, COLLECTOR_AC
 use Rattle.a1_base.specs.declared.place.Addr.{Addr}
 use Rattle.a1_base.specs.declared.place.TxnId.{TxnId}
 use Rattle.farm_node.specs.declared.node.Node.{Node}
-use Rattle.farm_node.specs.declared.entry.Collected.{Collected as Removed}
+use Rattle.farm_node.specs.declared.entry.Collected.{Collected}
 use Rattle.farm_node.specs.declared.entry.Entry.{Entry}
-use Rattle.farm_node.specs.declared.entry.Entry.TheVariants.{Collect as CollectEntry}
+use Rattle.farm_node.specs.declared.entry.Entry.TheVariants as entry
 use Rattle.farm_node.specs.NodeState.{Adds, collect_answer}
 use Rattle.a1_base.specs.Stamps.{IsStamp}
 use Rattle.farm_node.specs.Node.{plain_of}
-use Rattle.farm_core.specs.declared.event.Event.TheVariants.{Collect}
-use Rattle.farm_core.specs.declared.event.Answer.TheVariants.{Collected}
+use Rattle.farm_core.specs.declared.event.Event.TheVariants as event
+use Rattle.farm_core.specs.declared.event.Answer.TheVariants as answer
 use Rattle.farm_core.specs.declared.farm.Slot.{Slot}
 use Rattle.farm_core.specs.declared.farm.Farm.{Farm}
 use Rattle.farm_core.specs.Machine.{State, node_at, adding, loading_over, HoldsLockAt, Collects}
@@ -29,14 +29,14 @@ module _ (farm : Farm) (s : State) (st : Stands farm s) where
   pub stamp_low : IsStamp farm.clock
   stamp_low = subst IsStamp (sym st.clock_is) g.base.clock.1
 
-  pub collect_stands : (n : ℕ) (old v : Node) (removed : Removed) (after : Farm) → n < length farm.nodes.items → old ≡ get_or farm.nodes.items n old → Adds (plain_of old) (CollectEntry COLLECTOR_ACTOR farm.clock removed) (plain_of v)
+  pub collect_stands : (n : ℕ) (old v : Node) (removed : Collected) (after : Farm) → n < length farm.nodes.items → old ≡ get_or farm.nodes.items n old → Adds (plain_of old) (entry.Collect COLLECTOR_ACTOR farm.clock removed) (plain_of v)
       → after.nodes.items ≡ set farm.nodes.items n v → after.clock ≡ farm.clock → after.loading ≡ false → after.slots.items ≡ farm.slots.items
-      → StepsTo s (Collect n) (Ok (Collected removed.floor removed.versions removed.objects)) (Stands after)
+      → StepsTo s (event.Collect n) (Ok (answer.Collected removed.floor removed.versions removed.objects)) (Stands after)
   collect_stands n old v removed after low there adds nodes_are clock_is loading_is slots_are = (
     later,
     inl (tt, acts),
     record {
-      reached = reached_more s (Collect n) (Collected removed.floor removed.versions removed.objects) later st.reached less (inl (tt, acts)) refl;
+      reached = reached_more s (event.Collect n) (answer.Collected removed.floor removed.versions removed.objects) later st.reached less (inl (tt, acts)) refl;
       clock_is = clock_is ∙ st.clock_is;
       loading_is = loading_is;
       nodes_stand = subst (λ (ns : List Node). NodesStand ns later.nodes later.logs) (sym nodes_are) (nodes_written s g farm.nodes.items st.nodes_stand n old v less e adds_it);
@@ -52,19 +52,19 @@ module _ (farm : Farm) (s : State) (st : Stands farm s) where
     given_is = ap plain_of there ∙ old_is s g farm.nodes.items st.nodes_stand n old old less
 
     e : Entry
-    e = CollectEntry COLLECTOR_ACTOR s.clock removed
+    e = entry.Collect COLLECTOR_ACTOR s.clock removed
 
     later : State
-    later = loading_over (adding n (CollectEntry COLLECTOR_ACTOR s.clock removed) s)
+    later = loading_over (adding n (entry.Collect COLLECTOR_ACTOR s.clock removed) s)
 
     adds_it : Adds (plain_of (get_or farm.nodes.items n old)) e (plain_of v)
-    adds_it = subst (λ (z : Node × ℕ). Adds (plain_of z.0) (CollectEntry COLLECTOR_ACTOR z.1 removed) (plain_of v)) (λ i. (there i, st.clock_is i)) adds
+    adds_it = subst (λ (z : Node × ℕ). Adds (plain_of z.0) (entry.Collect COLLECTOR_ACTOR z.1 removed) (plain_of v)) (λ i. (there i, st.clock_is i)) adds
 
     due : removed ≡ collect_answer (node_at s n) s.clock
     due = adds.fits.2 ∙ (λ i. collect_answer (given_is i) (st.clock_is i))
 
-    acts : Collects s n (collect_answer (node_at s n) s.clock) (Collected removed.floor removed.versions removed.objects) later
-    acts = subst (λ (w : Removed). Collects s n w (Collected removed.floor removed.versions removed.objects) later) due (refl, refl)
+    acts : Collects s n (collect_answer (node_at s n) s.clock) (answer.Collected removed.floor removed.versions removed.objects) later
+    acts = subst (λ (w : Collected). Collects s n w (answer.Collected removed.floor removed.versions removed.objects) later) due (refl, refl)
 
     held : (u : TxnId) (a : Addr) → HoldsLockAt later u a → HoldsLockAt s u a
     held u a has = ⊎_elim (λ before. before) (λ takes. absurd takes) (held_adding s g n e less u a has)

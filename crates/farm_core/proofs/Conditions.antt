@@ -9,7 +9,7 @@ use Rattle.farm_node.specs.State.{holds_there, may_lock}
 use Rattle.farm_node.specs.Story.{story}
 use Rattle.farm_node.proofs.Addresses.{same_self}
 use Rattle.farm_core.specs.declared.event.Event.{Event}
-use Rattle.farm_core.specs.declared.event.Event.TheVariants.{Load, Begin, Read, Alloc, Lock, Draw, Check, Put, Unlock, Shut, Collect}
+use Rattle.farm_core.specs.declared.event.Event.TheVariants as event
 use Rattle.farm_core.specs.declared.active.Phase.{Phase}
 use Rattle.farm_core.specs.declared.active.Phase.TheVariants as phase
 use Rattle.farm_core.specs.declared.active.Active.{Active}
@@ -175,60 +175,60 @@ module _ (s : State) (r : Reached s) (t : TxnId) (x : Active) (nodes : List Node
     by false l m all = refl
 
   meets_own : (e : Event) → IsOf t e → meets_in x nodes t e ≡ true → Meets s e
-  meets_own (Load a bytes) own is = absurd own
-  meets_own (Begin u) own is = absurd own
-  meets_own (Read u a) own is =
+  meets_own (event.Load a bytes) own is = absurd own
+  meets_own (event.Begin u) own is = absurd own
+  meets_own (event.Read u a) own is =
       let z = and_parts (is_reading x.phase) (not (holds_at nodes t a)) is in
-      subst (λ (w : TxnId). Meets s (Read w a)) (sym own) (is_reading_to z.0, free_to a z.1)
-  meets_own (Alloc u n bytes) own is = subst (λ (w : TxnId). Meets s (Alloc w n bytes)) (sym own) (is_reading_to is)
-  meets_own (Lock u a new) own is =
+      subst (λ (w : TxnId). Meets s (event.Read w a)) (sym own) (is_reading_to z.0, free_to a z.1)
+  meets_own (event.Alloc u n bytes) own is = subst (λ (w : TxnId). Meets s (event.Alloc w n bytes)) (sym own) (is_reading_to is)
+  meets_own (event.Lock u a new) own is =
       let z = and_parts (is_reading x.phase) (may_lock_at nodes t a x.read_stamp) is in
-      subst (λ (w : TxnId). Meets s (Lock w a new)) (sym own)
+      subst (λ (w : TxnId). Meets s (event.Lock w a new)) (sym own)
       (is_reading_to z.0, (may_iff (node_of s a) t a y.read_stamp).0 ((λ i. may_lock t (sym at.active.read_stamp i) ((sym (plain_is a) i).cells a)) ∙ z.1))
-  meets_own (Draw u) own is =
+  meets_own (event.Draw u) own is =
       let z = and_parts (is_reading x.phase) (not (is_none x.locked.items)) is in
-      subst (λ (w : TxnId). Meets s (Draw w)) (sym own) (is_reading_to z.0, some_to (is_reading_to z.0) x.locked.items at.active.locked z.1)
-  meets_own (Check u a) own is =
+      subst (λ (w : TxnId). Meets s (event.Draw w)) (sym own) (is_reading_to z.0, some_to (is_reading_to z.0) x.locked.items at.active.locked z.1)
+  meets_own (event.Check u a) own is =
       let z = and_parts (is_drawn x.phase) ((read_set x.reads).read a && not (holds_at nodes t a)) is in
       let w = and_parts ((read_set x.reads).read a) (not (holds_at nodes t a)) z.1 in
-      subst (λ (v : TxnId). Meets s (Check v a)) (sym own) (is_drawn_to z.0, sym (ap (λ (m : Addr → Bool). m a) at.active.reads) ∙ w.0, free_to a w.1)
-  meets_own (Put u a) own is =
+      subst (λ (v : TxnId). Meets s (event.Check v a)) (sym own) (is_drawn_to z.0, sym (ap (λ (m : Addr → Bool). m a) at.active.reads) ∙ w.0, free_to a w.1)
+  meets_own (event.Put u a) own is =
       let z = and_parts (is_drawn x.phase || is_installing x.phase) (all_checked x.reads && holds_at nodes t a) is in
       let w = and_parts (all_checked x.reads) (holds_at nodes t a) z.1 in
-      subst (λ (v : TxnId). Meets s (Put v a)) (sym own) (going_to z.0, holds_to a w.1, same_to w.0)
-  meets_own (Unlock u a) own is =
+      subst (λ (v : TxnId). Meets s (event.Put v a)) (sym own) (going_to z.0, holds_to a w.1, same_to w.0)
+  meets_own (event.Unlock u a) own is =
       let z = and_parts (not (is_installing x.phase)) (holds_at nodes t a) is in
-      subst (λ (v : TxnId). Meets s (Unlock v a)) (sym own) (stage_to z.0, holds_to a z.1)
-  meets_own (Shut u) own is = absurd own
-  meets_own (Collect n) own is = absurd own
+      subst (λ (v : TxnId). Meets s (event.Unlock v a)) (sym own) (stage_to z.0, holds_to a z.1)
+  meets_own (event.Shut u) own is = absurd own
+  meets_own (event.Collect n) own is = absurd own
 
   own_meets : (e : Event) → IsOf t e → Meets s e → meets_in x nodes t e ≡ true
-  own_meets (Load a bytes) own meets = absurd own
-  own_meets (Begin u) own meets = absurd own
-  own_meets (Read u a) own meets =
-      let z : Meets s (Read t a) = subst (λ (w : TxnId). Meets s (Read w a)) own meets in
+  own_meets (event.Load a bytes) own meets = absurd own
+  own_meets (event.Begin u) own meets = absurd own
+  own_meets (event.Read u a) own meets =
+      let z : Meets s (event.Read t a) = subst (λ (w : TxnId). Meets s (event.Read w a)) own meets in
       and_from (is_reading x.phase) (not (holds_at nodes t a)) (is_reading_from z.0) (free_from a z.1)
-  own_meets (Alloc u n bytes) own meets = let z : Meets s (Alloc t n bytes) = subst (λ (w : TxnId). Meets s (Alloc w n bytes)) own meets in is_reading_from z
-  own_meets (Lock u a new) own meets =
-      let z : Meets s (Lock t a new) = subst (λ (w : TxnId). Meets s (Lock w a new)) own meets in
+  own_meets (event.Alloc u n bytes) own meets = let z : Meets s (event.Alloc t n bytes) = subst (λ (w : TxnId). Meets s (event.Alloc w n bytes)) own meets in is_reading_from z
+  own_meets (event.Lock u a new) own meets =
+      let z : Meets s (event.Lock t a new) = subst (λ (w : TxnId). Meets s (event.Lock w a new)) own meets in
       and_from (is_reading x.phase) (may_lock_at nodes t a x.read_stamp) (is_reading_from z.0)
       ((λ i. may_lock t (at.active.read_stamp i) ((plain_is a i).cells a)) ∙ (may_iff (node_of s a) t a y.read_stamp).1 z.1)
-  own_meets (Draw u) own meets =
-      let z : Meets s (Draw t) = subst (λ (w : TxnId). Meets s (Draw w)) own meets in
+  own_meets (event.Draw u) own meets =
+      let z : Meets s (event.Draw t) = subst (λ (w : TxnId). Meets s (event.Draw w)) own meets in
       and_from (is_reading x.phase) (not (is_none x.locked.items)) (is_reading_from z.0) (some_from z.1.0 x.locked.items (at.held z.1.0 z.1.1))
-  own_meets (Check u a) own meets =
-      let z : Meets s (Check t a) = subst (λ (w : TxnId). Meets s (Check w a)) own meets in
+  own_meets (event.Check u a) own meets =
+      let z : Meets s (event.Check t a) = subst (λ (w : TxnId). Meets s (event.Check w a)) own meets in
       and_from (is_drawn x.phase) ((read_set x.reads).read a && not (holds_at nodes t a)) (is_drawn_from z.0)
       (and_from ((read_set x.reads).read a) (not (holds_at nodes t a)) (ap (λ (m : Addr → Bool). m a) at.active.reads ∙ z.1) (free_from a z.2))
-  own_meets (Put u a) own meets =
-      let z : Meets s (Put t a) = subst (λ (w : TxnId). Meets s (Put w a)) own meets in
+  own_meets (event.Put u a) own meets =
+      let z : Meets s (event.Put t a) = subst (λ (w : TxnId). Meets s (event.Put w a)) own meets in
       and_from (is_drawn x.phase || is_installing x.phase) (all_checked x.reads && holds_at nodes t a) (going_from z.0)
       (and_from (all_checked x.reads) (holds_at nodes t a) (same_from z.2) (holds_from a z.1))
-  own_meets (Unlock u a) own meets =
-      let z : Meets s (Unlock t a) = subst (λ (w : TxnId). Meets s (Unlock w a)) own meets in
+  own_meets (event.Unlock u a) own meets =
+      let z : Meets s (event.Unlock t a) = subst (λ (w : TxnId). Meets s (event.Unlock w a)) own meets in
       and_from (not (is_installing x.phase)) (holds_at nodes t a) (stage_from z.0) (holds_from a z.1)
-  own_meets (Shut u) own meets = absurd own
-  own_meets (Collect n) own meets = absurd own
+  own_meets (event.Shut u) own meets = absurd own
+  own_meets (event.Collect n) own meets = absurd own
 
   pub meets_iff : (e : Event) → IsOf t e → IsTrue (meets_in x nodes t e) ↔ Meets s e
   meets_iff e own = (meets_own e own, own_meets e own)

@@ -7,15 +7,15 @@ use Rattle.a1_base.specs.declared.place.TxnId.{TxnId}
 use Rattle.object_region.specs.Occupancy.{Occupancy, LeastOfMade, FirstOfNext, LeastFree, IsSpent}
 use Rattle.a1_base.specs.Lists.{IsAmong}
 use Rattle.farm_node.specs.declared.entry.Found.{Found}
-use Rattle.farm_node.specs.declared.entry.Locked.{Locked as LockGiven}
+use Rattle.farm_node.specs.declared.entry.Locked.{Locked}
 use Rattle.farm_node.specs.declared.entry.CheckFault.{CheckFault}
-use Rattle.farm_node.specs.declared.entry.Entry.TheVariants.{Alloc as AllocEntry}
+use Rattle.farm_node.specs.declared.entry.Entry.TheVariants as entry
 use Rattle.farm_node.specs.Cell.{Bytes, read_answer, lock_answer, check_answer}
 use Rattle.farm_node.specs.NodeState.{occupancy}
 use Rattle.farm_core.specs.declared.event.Event.{Event}
-use Rattle.farm_core.specs.declared.event.Event.TheVariants.{Load, Begin, Read, Alloc, Lock, Draw, Check, Put, Unlock, Shut, Collect}
+use Rattle.farm_core.specs.declared.event.Event.TheVariants as event
 use Rattle.farm_core.specs.declared.event.Answer.{Answer}
-use Rattle.farm_core.specs.declared.event.Answer.TheVariants.{Placed}
+use Rattle.farm_core.specs.declared.event.Answer.TheVariants as answer
 use Rattle.farm_core.specs.Machine.{State, node_at, node_of, with_locked, adding, moving, Gives, Reads, Allocates, Locks, Draws, Checks, Acts, Steps, Runs}
 
 -- ---- one place comes next
@@ -70,7 +70,7 @@ reads_one : (s : State) (t : TxnId) (a : Addr) (r : ℕ) (found : Result Found T
 reads_one s t a r (Ok found) x next y other g h = gives_one _ _ x next y other g h
 reads_one s t a r (Err by) x next y other g h = gives_one _ _ x next y other g h
 
-locks_one : (s : State) (t : TxnId) (a : Addr) (r : ℕ) (value : Option Bytes) (given : Result LockGiven CheckFault) (x : Answer) (next : State) (y : Answer) (other : State) → Locks s t a r value given x next → Locks s t a r value given y other → Same x next y other
+locks_one : (s : State) (t : TxnId) (a : Addr) (r : ℕ) (value : Option Bytes) (given : Result Locked CheckFault) (x : Answer) (next : State) (y : Answer) (other : State) → Locks s t a r value given x next → Locks s t a r value given y other → Same x next y other
 locks_one s t a r value (Ok given) x next y other g h = gives_one _ _ x next y other g h
 locks_one s t a r value (Err fault) x next y other g h = gives_one _ _ x next y other g h
 
@@ -93,7 +93,7 @@ allocates_one s t n r bytes x next y other g h =
     let o = occupancy (node_at s n) in
     ⊎_elim
     (λ placed. ⊎_elim
-    (λ placed2. gives_one _ _ x next y other placed.2 (subst (λ a. let bound = max (node_at s n).past r in Gives (Placed a bound) (moving t (with_locked a) (adding n (AllocEntry t r bytes (record { at = a; bound = bound })) s)) y other)
+    (λ placed2. gives_one _ _ x next y other placed.2 (subst (λ a. let bound = max (node_at s n).past r in Gives (answer.Placed a bound) (moving t (with_locked a) (adding n (entry.Alloc t r bytes (record { at = a; bound = bound })) s)) y other)
     (one_place o placed2.0 placed.0 placed2.1 placed.1) placed2.2))
     (λ spent. free_not_spent o placed.0 placed.1 spent.0)
     h)
@@ -101,17 +101,17 @@ allocates_one s t n r bytes x next y other g h =
     g
 
 act_one : (s : State) (e : Event) (x : Answer) (next : State) (y : Answer) (other : State) → Acts s e x next → Acts s e y other → Same x next y other
-act_one s (Load a bytes) x next y other g h = gives_one _ _ x next y other g h
-act_one s (Begin t) x next y other g h = gives_one _ _ x next y other g h
-act_one s (Read t a) x next y other g h = reads_one s t a (s.transactions t).read_stamp (read_answer (s.transactions t).read_stamp ((node_of s a).cells a)) x next y other g h
-act_one s (Alloc t n bytes) x next y other g h = allocates_one s t n (s.transactions t).read_stamp bytes x next y other g h
-act_one s (Lock t a value) x next y other g h = locks_one s t a (s.transactions t).read_stamp value (lock_answer t (s.transactions t).read_stamp ((node_of s a).cells a)) x next y other g h
-act_one s (Draw t) x next y other g h = draws_one s t x next y other g h
-act_one s (Check t a) x next y other g h = let r = (s.transactions t).read_stamp in checks_one s t a r (s.transactions t).write_stamp (check_answer r ((node_of s a).cells a)) x next y other g h
-act_one s (Put t a) x next y other g h = gives_one _ _ x next y other g h
-act_one s (Unlock t a) x next y other g h = gives_one _ _ x next y other g h
-act_one s (Shut t) x next y other g h = gives_one _ _ x next y other g h
-act_one s (Collect n) x next y other g h = gives_one _ _ x next y other g h
+act_one s (event.Load a bytes) x next y other g h = gives_one _ _ x next y other g h
+act_one s (event.Begin t) x next y other g h = gives_one _ _ x next y other g h
+act_one s (event.Read t a) x next y other g h = reads_one s t a (s.transactions t).read_stamp (read_answer (s.transactions t).read_stamp ((node_of s a).cells a)) x next y other g h
+act_one s (event.Alloc t n bytes) x next y other g h = allocates_one s t n (s.transactions t).read_stamp bytes x next y other g h
+act_one s (event.Lock t a value) x next y other g h = locks_one s t a (s.transactions t).read_stamp value (lock_answer t (s.transactions t).read_stamp ((node_of s a).cells a)) x next y other g h
+act_one s (event.Draw t) x next y other g h = draws_one s t x next y other g h
+act_one s (event.Check t a) x next y other g h = let r = (s.transactions t).read_stamp in checks_one s t a r (s.transactions t).write_stamp (check_answer r ((node_of s a).cells a)) x next y other g h
+act_one s (event.Put t a) x next y other g h = gives_one _ _ x next y other g h
+act_one s (event.Unlock t a) x next y other g h = gives_one _ _ x next y other g h
+act_one s (event.Shut t) x next y other g h = gives_one _ _ x next y other g h
+act_one s (event.Collect n) x next y other g h = gives_one _ _ x next y other g h
 
 step_one : (s : State) (e : Event) (x : Answer) (next : State) (y : Answer) (other : State) → Steps s e x next → Steps s e y other → Same x next y other
 step_one s e x next y other g h =

@@ -9,22 +9,22 @@ use Rattle.farm_node.specs.Node.{plain_of}
 use Rattle.farm_core.specs.Standing.{plains}
 use Rattle.farm_core.proofs.NodeLists.{plains_index, plains_set, plains_other}
 
-module _ (first nodes : List Node) (i : ℕ) (low : i < length nodes) (d v : Node) (entry : NodeState → Entry) (rest : (n : ℕ) → i ≤ n → plains nodes n ≡ plains first n) where
+module _ (first nodes : List Node) (i : ℕ) (low : i < length nodes) (d v : Node) (makes : NodeState → Entry) (rest : (n : ℕ) → i ≤ n → plains nodes n ≡ plains first n) where
   pub next_is : plain_of (get_or nodes i d) ≡ plains first i
   next_is = plains_index nodes i d low ∙ rest i (omega arith)
 
   pub rest_more : (n : ℕ) → i + 1 ≤ n → plains (set nodes i v) n ≡ plains first n
   rest_more n le = let differ : i ≢ n = (λ same. omega arith) in plains_other nodes i n v differ ∙ rest n (omega arith)
 
-  pub done_more : ((n : ℕ) → n < i → Adds (plains first n) (entry (plains first n)) (plains nodes n)) → Adds (plain_of (get_or nodes i d)) (entry (plain_of (get_or nodes i d))) (plain_of v)
-      → (n : ℕ) → n < i + 1 → Adds (plains first n) (entry (plains first n)) (plains (set nodes i v) n)
+  pub done_more : ((n : ℕ) → n < i → Adds (plains first n) (makes (plains first n)) (plains nodes n)) → Adds (plain_of (get_or nodes i d)) (makes (plain_of (get_or nodes i d))) (plain_of v)
+      → (n : ℕ) → n < i + 1 → Adds (plains first n) (makes (plains first n)) (plains (set nodes i v) n)
   done_more done adds n less = by (eqb i n) refl where
-    by : (b : Bool) → eqb i n ≡ b → Adds (plains first n) (entry (plains first n)) (plains (set nodes i v) n)
+    by : (b : Bool) → eqb i n ≡ b → Adds (plains first n) (makes (plains first n)) (plains (set nodes i v) n)
     by true is =
         let same : i ≡ n = eqb-true i n is in
-        subst (λ (m : ℕ). Adds (plains first m) (entry (plains first m)) (plains (set nodes i v) m)) same
-        (subst (λ (z : NodeState × NodeState). Adds z.0 (entry z.0) z.1) (λ j. (next_is j, sym (plains_set nodes i v low) j)) adds)
+        subst (λ (m : ℕ). Adds (plains first m) (makes (plains first m)) (plains (set nodes i v) m)) same
+        (subst (λ (z : NodeState × NodeState). Adds z.0 (makes z.0) z.1) (λ j. (next_is j, sym (plains_set nodes i v low) j)) adds)
     by false is =
         let differ : i ≢ n = eqb-false i n is in
         let before : n < i = omega arith in
-        subst (λ (p : NodeState). Adds (plains first n) (entry (plains first n)) p) (sym (plains_other nodes i n v differ)) (done n before)
+        subst (λ (p : NodeState). Adds (plains first n) (makes (plains first n)) p) (sym (plains_other nodes i n v differ)) (done n before)

@@ -7,12 +7,12 @@ use Rattle.a1_base.specs.declared.place.Addr.{Addr}
 use Rattle.a1_base.specs.declared.place.TxnId.{TxnId}
 use Rattle.farm_node.specs.declared.node.Node.{Node}
 use Rattle.farm_node.specs.declared.entry.Entry.{Entry}
-use Rattle.farm_node.specs.declared.entry.Entry.TheVariants.{Shut as ShutEntry}
+use Rattle.farm_node.specs.declared.entry.Entry.TheVariants as entry
 use Rattle.farm_node.specs.Cell.{same_txn}
 use Rattle.farm_node.specs.NodeState.{NodeState, Adds}
 use Rattle.farm_node.proofs.Sound.{txn_self}
-use Rattle.farm_core.specs.declared.event.Event.TheVariants.{Shut}
-use Rattle.farm_core.specs.declared.event.Answer.TheVariants.{Shut as Ended, No}
+use Rattle.farm_core.specs.declared.event.Event.TheVariants as event
+use Rattle.farm_core.specs.declared.event.Answer.TheVariants as answer
 use Rattle.farm_core.specs.declared.active.Active.{Active}
 use Rattle.farm_core.specs.declared.farm.Slot.{Slot}
 use Rattle.farm_core.specs.declared.farm.Farm.{Farm}
@@ -89,15 +89,15 @@ module _ (slot : Slot) (nodes : List Node) (t : TxnId) where
     pub shut_held : result ≡ true → Shuts slot nodes t false (record slot { «open» = Some z })
     shut_held holds s clock r at =
         let now : AtClock x nodes clock t s = slot_active s r t slot nodes clock at x is same in
-        let answer = asks s r now.standing in
-        (λ meets. meets.1 (answer.0.0 holds), slot_back s r t slot nodes clock at z nodes clock s same refl (record { standing = answer.1; clock_is = now.clock_is }))
+        let told = asks s r now.standing in
+        (λ meets. meets.1 (told.0.0 holds), slot_back s r t slot nodes clock at z nodes clock s same refl (record { standing = told.1; clock_is = now.clock_is }))
 
     pub shut_free : result ≡ false → (later : Slot) → later.begins ≡ slot.begins → later.open ≡ None → Shuts slot nodes t true later
     shut_free free later begins none = (
       λ s clock r at. (
           let now : AtClock x nodes clock t s = slot_active s r t slot nodes clock at x is same in
-          let answer = asks s r now.standing in
-          (now.standing.active.is_open, λ holds. both_ways result free (answer.0.1 holds))
+          let told = asks s r now.standing in
+          (now.standing.active.is_open, λ holds. both_ways result free (told.0.1 holds))
           ),
       begins,
       none,
@@ -110,8 +110,8 @@ module _ (farm : Farm) (s : State) (st : Stands farm s) (t : TxnId) (actor : IsA
   g = good s st.reached
 
   -- an event that lacks its condition, which may leave the slot another way
-  pub shut_no : (slot : Slot) (nodes : List Node) (after : Farm) → (Meets s (Shut t) → ⊥) × SlotAt slot nodes farm.clock t s → after.nodes.items ≡ farm.nodes.items → after.clock ≡ farm.clock → after.loading ≡ farm.loading
-      → after.slots.items ≡ set farm.slots.items t.actor slot → StepsTo s (Shut t) (Ok No) (Stands after)
+  pub shut_no : (slot : Slot) (nodes : List Node) (after : Farm) → (Meets s (event.Shut t) → ⊥) × SlotAt slot nodes farm.clock t s → after.nodes.items ≡ farm.nodes.items → after.clock ≡ farm.clock → after.loading ≡ farm.loading
+      → after.slots.items ≡ set farm.slots.items t.actor slot → StepsTo s (event.Shut t) (Ok answer.No) (Stands after)
   shut_no slot nodes after lacks nodes_are clock_is loading_is slots_are = (
     s,
     inr (lacks.0, (refl, refl)),
@@ -126,18 +126,18 @@ module _ (farm : Farm) (s : State) (st : Stands farm s) (t : TxnId) (actor : IsA
     },
   )
 
-  module _ (meets : Meets s (Shut t)) where
+  module _ (meets : Meets s (event.Shut t)) where
     pub shut_pins : (nodes : List Node) → nodes ≡ farm.nodes.items → (n : ℕ) → n < length nodes → (x : ℕ) × ((plains nodes n).pins t.actor ≡ Some x)
     shut_pins nodes same n low =
         let number : length nodes ≡ s.nodes = ap length same ∙ st.nodes_stand.number in
         let less : n < s.nodes = omega arith in
         ((s.transactions t).read_stamp, ap (λ (ns : List Node). (plains ns n).pins t.actor) same ∙ (ap (λ (p : NodeState). p.pins t.actor) (st.nodes_stand.each n less) ∙ g.pins.open_at t n less meets.0))
 
-    abbrev entry : Entry
-    entry = ShutEntry t.actor
+    abbrev new_entry : Entry
+    new_entry = entry.Shut t.actor
 
     abbrev shut : State
-    shut = moving t ended (adding_to_all (ShutEntry t.actor) s)
+    shut = moving t ended (adding_to_all (entry.Shut t.actor) s)
 
     none_left : (u : TxnId) → u.actor ≡ t.actor → (shut.transactions u).is_open ≡ false
     none_left u same = by (same_txn t u) (s.transactions u).is_open refl refl where
@@ -150,24 +150,24 @@ module _ (farm : Farm) (s : State) (st : Stands farm s) (t : TxnId) (actor : IsA
           absurd (both_ways (same_txn t u) is (ap (same_txn t) (sym one) ∙ txn_self t))
 
     pub shut_stands : (slot : Slot) (later : Slot) (nodes after_nodes : List Node) (after : Farm) → slot ≡ get_or farm.slots.items t.actor slot → later.begins ≡ slot.begins → later.open ≡ None
-        → nodes ≡ farm.nodes.items → length after_nodes ≡ length nodes → AddsEach (λ p. ShutEntry t.actor) nodes after_nodes
+        → nodes ≡ farm.nodes.items → length after_nodes ≡ length nodes → AddsEach (λ p. entry.Shut t.actor) nodes after_nodes
         → after.nodes.items ≡ after_nodes → after.clock ≡ farm.clock → after.loading ≡ farm.loading → after.slots.items ≡ set farm.slots.items t.actor later
-        → StepsTo s (Shut t) (Ok Ended) (Stands after)
+        → StepsTo s (event.Shut t) (Ok answer.Shut) (Stands after)
     shut_stands slot later nodes after_nodes after there begins none same number adds nodes_are clock_is loading_is slots_are = (
       shut,
       inl (meets, (refl, refl)),
       record {
-        reached = reached_more s (Shut t) Ended shut st.reached actor (inl (meets, (refl, refl))) refl;
+        reached = reached_more s (event.Shut t) answer.Shut shut st.reached actor (inl (meets, (refl, refl))) refl;
         clock_is = clock_is ∙ st.clock_is;
         loading_is = loading_is ∙ st.loading_is;
         nodes_stand = subst (λ (ns : List Node). NodesStand ns shut.nodes shut.logs) (sym nodes_are)
-            (each_added s g entry farm.nodes.items after_nodes st.nodes_stand (number ∙ ap length same)
+            (each_added s g new_entry farm.nodes.items after_nodes st.nodes_stand (number ∙ ap length same)
             (λ n less. let count : length nodes ≡ s.nodes = ap length same ∙ st.nodes_stand.number in
-            subst (λ (ns : List Node). Adds (plains ns n) entry (plains after_nodes n)) same (adds n (omega arith))));
+            subst (λ (ns : List Node). Adds (plains ns n) new_entry (plains after_nodes n)) same (adds n (omega arith))));
         count = ap length slots_are ∙ (length-set farm.slots.items t.actor later ∙ st.count);
         slots_stand = subst (λ (all : List Slot). (k : ℕ) (d : Slot) → 0 < k → k ≤ ACTOR_LIMIT → SlotStands (get_or all k d) k shut) (sym slots_are)
             (slots_after farm s st t actor later shut own
-            (λ k old differ was. slot_kept old k s shut refl (λ u is. other_stays t u (ended (s.transactions t)) s.transactions (another t u k differ is)) (λ u a is held. held_each s g entry u a (λ takes. takes) held) was));
+            (λ k old differ was. slot_kept old k s shut refl (λ u is. other_stays t u (ended (s.transactions t)) s.transactions (another t u k differ is)) (λ u a is held. held_each s g new_entry u a (λ takes. takes) held) was));
       },
     ) where
       was : SlotStands slot t.actor s

@@ -11,7 +11,7 @@ use Rattle.farm_node.specs.declared.entry.Found.{Found}
 use Rattle.farm_node.specs.declared.entry.Locked.{Locked}
 use Rattle.farm_node.specs.declared.entry.CheckFault.{CheckFault}
 use Rattle.farm_node.specs.declared.entry.Entry.{Entry}
-use Rattle.farm_node.specs.declared.entry.Entry.TheVariants.{Read, Alloc, Lock, Check, Put, Unlock, Collect}
+use Rattle.farm_node.specs.declared.entry.Entry.TheVariants as entry
 use Rattle.farm_node.specs.Cell.{Bytes, Cell, read_answer, made_by, locked_by, lock_answer, check_answer}
 use Rattle.farm_node.specs.NodeState.{NodeState, occupancy, PinnedBy, MayLock, FitsLock, FitsCheck, after, replay, collect_answer}
 use Rattle.a1_base.specs.Stamps.{IsStamp}
@@ -55,19 +55,19 @@ module _ (s : State) (g : Good s) where
   -- read
 
   read_more : (t : TxnId) (a : Addr) (y : Result Found TxnId) → IsAt Reading s t → y ≡ read_answer (s.transactions t).read_stamp ((node_of s a).cells a)
-      → Good (adding (home s a) (Read t.actor a (s.transactions t).read_stamp y) s)
-  read_more t a y at due = good_adding s (home s a) (Read t.actor a (s.transactions t).read_stamp y) g (started s g t at.0) (less_home a) tt
+      → Good (adding (home s a) (entry.Read t.actor a (s.transactions t).read_stamp y) s)
+  read_more t a y at due = good_adding s (home s a) (entry.Read t.actor a (s.transactions t).read_stamp y) g (started s g t at.0) (less_home a) tt
       (is_pinned t (home s a) (less_home a) at.0, read_stamp t, due) (g.base.sane t).read (λ u. tt)
 
-  pub good_read : (t : TxnId) (a : Addr) (y : Result Found TxnId) (answer : _) (next : State) → IsAt Reading s t → y ≡ read_answer (s.transactions t).read_stamp ((node_of s a).cells a)
-      → Reads s t a (s.transactions t).read_stamp y answer next → Good next
-  good_read t a (Ok found) answer next at due acts =
-      let more : Good (adding (home s a) (Read t.actor a (s.transactions t).read_stamp (Ok found)) s) = read_more t a (Ok found) at due in
-      subst Good (sym acts.1) (good_staged (adding (home s a) (Read t.actor a (s.transactions t).read_stamp (Ok found)) s) more t (s.transactions t).stage (with_addr a (s.transactions t).has_read) (s.transactions t).is_same (started s g t at.0)
+  pub good_read : (t : TxnId) (a : Addr) (y : Result Found TxnId) (told : _) (next : State) → IsAt Reading s t → y ≡ read_answer (s.transactions t).read_stamp ((node_of s a).cells a)
+      → Reads s t a (s.transactions t).read_stamp y told next → Good next
+  good_read t a (Ok found) told next at due acts =
+      let more : Good (adding (home s a) (entry.Read t.actor a (s.transactions t).read_stamp (Ok found)) s) = read_more t a (Ok found) at due in
+      subst Good (sym acts.1) (good_staged (adding (home s a) (entry.Read t.actor a (s.transactions t).read_stamp (Ok found)) s) more t (s.transactions t).stage (with_addr a (s.transactions t).has_read) (s.transactions t).is_same (started s g t at.0)
       (sane_reading s.clock s.begins t (s.transactions t) (g.base.sane t) (with_addr a (s.transactions t).has_read) (s.transactions t).had_locked at.1)
       (λ going. going)
       (more.base.same t))
-  good_read t a (Err by) answer next at due acts = subst Good (sym acts.1) (read_more t a (Err by) at due)
+  good_read t a (Err by) told next at due acts = subst Good (sym acts.1) (read_more t a (Err by) at due)
 
   -- alloc
 
@@ -84,16 +84,16 @@ module _ (s : State) (g : Good s) where
       let is : a.region ≡ place.0 * s.nodes + n = place.2 ∙ ((λ i. l.number i + place.0 * l.count i) ∙ omega arith) in
       sym (ap (λ (z : ℕ). z % s.nodes) is ∙ mod-mul-add place.0 s.nodes n less)
 
-  pub good_alloc : (t : TxnId) (n : ℕ) (bytes : Bytes) (answer : _) (next : State) → IsAt Reading s t → n < s.nodes
-      → Allocates s t n (s.transactions t).read_stamp bytes answer next → Good next
-  good_alloc t n bytes answer next at less acts = ⊎_elim
+  pub good_alloc : (t : TxnId) (n : ℕ) (bytes : Bytes) (told : _) (next : State) → IsAt Reading s t → n < s.nodes
+      → Allocates s t n (s.transactions t).read_stamp bytes told next → Good next
+  good_alloc t n bytes told next at less acts = ⊎_elim
       (λ x. subst Good (sym x.2.1) (placed x.0 x.1))
       (λ x. subst Good (sym x.1.1) (good_refused s g t at.0))
       acts where
         placed : (a : Addr) → LeastFree (occupancy (node_at s n)) a
-            → Good (moving t (with_locked a) (adding n (Alloc t (s.transactions t).read_stamp bytes (record { at = a; bound = max (node_at s n).past (s.transactions t).read_stamp })) s))
+            → Good (moving t (with_locked a) (adding n (entry.Alloc t (s.transactions t).read_stamp bytes (record { at = a; bound = max (node_at s n).past (s.transactions t).read_stamp })) s))
         placed a free =
-            let e : Entry = Alloc t (s.transactions t).read_stamp bytes (record { at = a; bound = max (node_at s n).past (s.transactions t).read_stamp }) in
+            let e : Entry = entry.Alloc t (s.transactions t).read_stamp bytes (record { at = a; bound = max (node_at s n).past (s.transactions t).read_stamp }) in
             let more : Good (adding n e s) = good_adding s n e g (started s g t at.0) less tt
             (is_pinned t n less at.0, read_stamp t, free, refl) (g.base.sane t).read (λ u mine. reading_allows t u at mine) in
             let there : (node_at (adding n e s) n).cells a ≡ Some (made_by t bytes (max (node_at s n).past (s.transactions t).read_stamp)) =
@@ -103,48 +103,48 @@ module _ (s : State) (g : Good s) where
 
   -- lock
 
-  pub good_lock : (t : TxnId) (a : Addr) (new : Option Bytes) (y : Result Locked CheckFault) (answer : _) (next : State) → IsAt Reading s t
+  pub good_lock : (t : TxnId) (a : Addr) (new : Option Bytes) (y : Result Locked CheckFault) (told : _) (next : State) → IsAt Reading s t
       → MayLock (node_of s a) t a (s.transactions t).read_stamp → y ≡ lock_answer t (s.transactions t).read_stamp ((node_of s a).cells a)
-      → Locks s t a (s.transactions t).read_stamp new y answer next → Good next
-  good_lock t a new (Ok given) answer next at may due acts =
-      let e : Entry = Lock t a (s.transactions t).read_stamp new (Ok given) in
+      → Locks s t a (s.transactions t).read_stamp new y told next → Good next
+  good_lock t a new (Ok given) told next at may due acts =
+      let e : Entry = entry.Lock t a (s.transactions t).read_stamp new (Ok given) in
       let fits : FitsLock (node_of s a) t a (s.transactions t).read_stamp (Ok given) = record { pinned = is_pinned t (home s a) (less_home a) at.0; stamp = read_stamp t; may = may; due = due } in
       let more : Good (adding (home s a) e s) = good_adding s (home s a) e g (started s g t at.0) (less_home a) tt fits tt (λ u mine. reading_allows t u at mine) in
       let ask : Askable t ((node_of s a).cells a) = askable (node_of s a) t a (s.transactions t).read_stamp (Ok given) fits in
       let there : (node_at (adding (home s a) e s) (home s a)).cells a ≡ locked_by t new (Some ask.cell) =
       ap (λ (p : NodeState). p.cells a) (grown_node (home s a) e (less_home a)) ∙ (set_self a _ (node_of s a).cells ∙ ap (locked_by t new) ask.is) in
       subst Good (sym acts.1) (good_locked (adding (home s a) e s) more t a at.0 at.1 (subst (λ (c : Option Cell). Holds t c) (sym there) refl))
-  good_lock t a new (Err fault) answer next at may due acts =
-      let e : Entry = Lock t a (s.transactions t).read_stamp new (Err fault) in
+  good_lock t a new (Err fault) told next at may due acts =
+      let e : Entry = entry.Lock t a (s.transactions t).read_stamp new (Err fault) in
       let fits : FitsLock (node_of s a) t a (s.transactions t).read_stamp (Err fault) = record { pinned = is_pinned t (home s a) (less_home a) at.0; stamp = read_stamp t; may = may; due = due } in
       let more : Good (adding (home s a) e s) = good_adding s (home s a) e g (started s g t at.0) (less_home a) tt fits tt (λ u. tt) in
       subst Good (sym acts.1) (good_refused (adding (home s a) e s) more t at.0)
 
   -- draw
 
-  pub good_draw : (t : TxnId) (answer : _) (next : State) → IsAt Reading s t → Draws s t answer next → Good next
-  good_draw t answer next at acts = ⊎_elim
+  pub good_draw : (t : TxnId) (told : _) (next : State) → IsAt Reading s t → Draws s t told next → Good next
+  good_draw t told next at acts = ⊎_elim
       (λ x. let low : s.clock < LAST_STAMP = x.0 in subst Good (sym x.1.1) (good_drawn s g t at.0 at.1 (omega arith)))
       (λ x. subst Good (sym x.1.1) (good_refused s g t at.0))
       acts
 
   -- check
 
-  pub good_check : (t : TxnId) (a : Addr) (y : Result (Unit {0}) CheckFault) (answer : _) (next : State) → IsAt Drawn s t → (HoldsLockAt s t a → ⊥)
-      → y ≡ check_answer (s.transactions t).read_stamp ((node_of s a).cells a) → Checks s t a (s.transactions t).read_stamp (s.transactions t).write_stamp y answer next → Good next
-  good_check t a y answer next at free due acts = by y due acts where
+  pub good_check : (t : TxnId) (a : Addr) (y : Result (Unit {0}) CheckFault) (told : _) (next : State) → IsAt Drawn s t → (HoldsLockAt s t a → ⊥)
+      → y ≡ check_answer (s.transactions t).read_stamp ((node_of s a).cells a) → Checks s t a (s.transactions t).read_stamp (s.transactions t).write_stamp y told next → Good next
+  good_check t a y told next at free due acts = by y due acts where
     fits : (y : Result (Unit {0}) CheckFault) → y ≡ check_answer (s.transactions t).read_stamp ((node_of s a).cells a)
         → FitsCheck (node_of s a) t a (s.transactions t).read_stamp (s.transactions t).write_stamp y
     fits y due = record { pinned = is_pinned t (home s a) (less_home a) at.0; stamps = (read_stamp t, write_stamp t); not_own = free; due = due }
 
     more : (y : Result (Unit {0}) CheckFault) → y ≡ check_answer (s.transactions t).read_stamp ((node_of s a).cells a)
-        → Good (adding (home s a) (Check t a (s.transactions t).read_stamp (s.transactions t).write_stamp y) s)
-    more y due = good_adding s (home s a) (Check t a (s.transactions t).read_stamp (s.transactions t).write_stamp y) g (started s g t at.0) (less_home a) tt (fits y due) (g.base.sane t).write (λ u. tt)
+        → Good (adding (home s a) (entry.Check t a (s.transactions t).read_stamp (s.transactions t).write_stamp y) s)
+    more y due = good_adding s (home s a) (entry.Check t a (s.transactions t).read_stamp (s.transactions t).write_stamp y) g (started s g t at.0) (less_home a) tt (fits y due) (g.base.sane t).write (λ u. tt)
 
     by : (y : Result (Unit {0}) CheckFault) → y ≡ check_answer (s.transactions t).read_stamp ((node_of s a).cells a)
-        → Checks s t a (s.transactions t).read_stamp (s.transactions t).write_stamp y answer next → Good next
+        → Checks s t a (s.transactions t).read_stamp (s.transactions t).write_stamp y told next → Good next
     by (Ok same) due acts =
-        let e : Entry = Check t a (s.transactions t).read_stamp (s.transactions t).write_stamp (Ok tt) in
+        let e : Entry = entry.Check t a (s.transactions t).read_stamp (s.transactions t).write_stamp (Ok tt) in
         let after_it : Good (adding (home s a) e s) = more (Ok tt) due in
         let here : SameIn ((adding (home s a) e s).logs (home s a)) t a (s.transactions t).read_stamp (s.transactions t).write_stamp =
         record { before = s.logs (home s a); rest = []; is = now_at (home s a) (s.logs (home s a) ++ e ∷ []) s.logs } in
@@ -158,17 +158,17 @@ module _ (s : State) (g : Good s) where
           marked b d here old true is same = subst (λ (z : Addr). SameIn (d.logs (home s z)) t z (s.transactions t).read_stamp (s.transactions t).write_stamp) (addr_eq a b is) here
           marked b d here old false is same = old same
     by (Err fault) due acts =
-        subst Good (sym acts.1) (good_refused (adding (home s a) (Check t a (s.transactions t).read_stamp (s.transactions t).write_stamp (Err fault)) s) (more (Err fault) due) t at.0)
+        subst Good (sym acts.1) (good_refused (adding (home s a) (entry.Check t a (s.transactions t).read_stamp (s.transactions t).write_stamp (Err fault)) s) (more (Err fault) due) t at.0)
 
   -- put
 
   pub good_put : (t : TxnId) (a : Addr) (next : State) → 0 < t.actor → (IsAt Drawn s t ⊎ IsAt Installing s t) → HoldsLockAt s t a → AllSame (s.transactions t)
-      → next ≡ moving t (in_stage Installing) (adding (home s a) (Put t a (s.transactions t).write_stamp) s) → Good next
+      → next ≡ moving t (in_stage Installing) (adding (home s a) (entry.Put t a (s.transactions t).write_stamp) s) → Good next
   good_put t a next actor at has same is =
-      let more : Good (adding (home s a) (Put t a (s.transactions t).write_stamp) s) = good_adding s (home s a) (Put t a (s.transactions t).write_stamp) g (started s g t is_open) (less_home a) tt
+      let more : Good (adding (home s a) (entry.Put t a (s.transactions t).write_stamp) s) = good_adding s (home s a) (entry.Put t a (s.transactions t).write_stamp) g (started s g t is_open) (less_home a) tt
       ((has.0, has.1, has.2, has.3, has.4, bound drawn), write_stamp t) (g.base.sane t).write
       (λ u mine. subst (λ (z : TxnId). ((s.transactions t).write_stamp ≡ (s.transactions z).write_stamp) × (0 < (s.transactions z).write_stamp)) mine (refl, drawn)) in
-      subst Good (sym is) (good_staged (adding (home s a) (Put t a (s.transactions t).write_stamp) s) more t Installing (s.transactions t).has_read (s.transactions t).is_same (started s g t is_open)
+      subst Good (sym is) (good_staged (adding (home s a) (entry.Put t a (s.transactions t).write_stamp) s) more t Installing (s.transactions t).has_read (s.transactions t).is_same (started s g t is_open)
       (sane_installing s.clock s.begins t (s.transactions t) (g.base.sane t) (open_stage s g t is_open) stage same)
       (λ going. not_refused)
       (more.base.same t)) where
@@ -193,16 +193,16 @@ module _ (s : State) (g : Good s) where
   -- unlock
 
   pub good_unlock : (t : TxnId) (a : Addr) (next : State) → (s.transactions t).is_open ≡ true → HoldsLockAt s t a
-      → next ≡ moving t (in_stage Refused) (adding (home s a) (Unlock t a) s) → Good next
+      → next ≡ moving t (in_stage Refused) (adding (home s a) (entry.Unlock t a) s) → Good next
   good_unlock t a next is_open has is =
-      subst Good (sym is) (good_adding (moving t (in_stage Refused) s) (home s a) (Unlock t a) (good_refused s g t is_open) (started s g t is_open) (less_home a) tt has tt
+      subst Good (sym is) (good_adding (moving t (in_stage Refused) s) (home s a) (entry.Unlock t a) (good_refused s g t is_open) (started s g t is_open) (less_home a) tt has tt
       (λ u mine. subst (λ (z : TxnId). (set_transaction t (in_stage Refused (s.transactions t)) s.transactions z).stage ≡ Refused) mine
       (ap (λ (b : Bool). (cond b (in_stage Refused (s.transactions t)) (s.transactions t)).stage) (txn_self t))))
 
   -- collect
 
-  pub good_collect : (n : ℕ) (answer : _) (next : State) → n < s.nodes → Collects s n (collect_answer (node_at s n) s.clock) answer next → Good next
-  good_collect n answer next less acts =
-      subst Good (sym acts.1) (good_adding (loading_over s) n (Collect COLLECTOR_ACTOR s.clock (collect_answer (node_at s n) s.clock))
+  pub good_collect : (n : ℕ) (told : _) (next : State) → n < s.nodes → Collects s n (collect_answer (node_at s n) s.clock) told next → Good next
+  good_collect n told next less acts =
+      subst Good (sym acts.1) (good_adding (loading_over s) n (entry.Collect COLLECTOR_ACTOR s.clock (collect_answer (node_at s n) s.clock))
       record { base = base_loading_over s g.base; pins = record { open_at = g.pins.open_at; none_at = g.pins.none_at } }
       refl less tt (omega arith, g.base.clock.1, refl) (omega arith) (λ u. tt))

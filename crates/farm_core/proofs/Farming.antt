@@ -12,7 +12,7 @@ use Rattle.farm_node.specs.Cell.{same_txn}
 use Rattle.farm_node.specs.NodeState.{NodeState, HeldBy, Adds, after, replay}
 use Rattle.farm_node.proofs.Sound.{txn_eq}
 use Rattle.farm_core.specs.declared.event.Event.{Event}
-use Rattle.farm_core.specs.declared.event.Event.TheVariants.{Load, Begin, Read, Alloc, Lock, Draw, Check, Put, Unlock, Shut, Collect}
+use Rattle.farm_core.specs.declared.event.Event.TheVariants as event
 use Rattle.farm_core.specs.declared.event.Answer.{Answer}
 use Rattle.farm_core.specs.declared.active.Active.{Active}
 use Rattle.farm_core.specs.declared.farm.Slot.{Slot}
@@ -63,17 +63,17 @@ another t u k differ is = by (same_txn t u) refl where
 -- an event of a transaction
 
 pub actor_of : (nodes : ℕ) (t : TxnId) (e : Event) → IsOf t e → InRange nodes e → IsActor t
-actor_of nodes t (Load a bytes) own range = absurd own
-actor_of nodes t (Begin u) own range = absurd own
-actor_of nodes t (Read u a) own range = subst IsActor own range.0
-actor_of nodes t (Alloc u n bytes) own range = subst IsActor own range.0
-actor_of nodes t (Lock u a new) own range = subst IsActor own range.0
-actor_of nodes t (Draw u) own range = subst IsActor own range
-actor_of nodes t (Check u a) own range = subst IsActor own range.0
-actor_of nodes t (Put u a) own range = subst IsActor own range.0
-actor_of nodes t (Unlock u a) own range = subst IsActor own range.0
-actor_of nodes t (Shut u) own range = absurd own
-actor_of nodes t (Collect n) own range = absurd own
+actor_of nodes t (event.Load a bytes) own range = absurd own
+actor_of nodes t (event.Begin u) own range = absurd own
+actor_of nodes t (event.Read u a) own range = subst IsActor own range.0
+actor_of nodes t (event.Alloc u n bytes) own range = subst IsActor own range.0
+actor_of nodes t (event.Lock u a new) own range = subst IsActor own range.0
+actor_of nodes t (event.Draw u) own range = subst IsActor own range
+actor_of nodes t (event.Check u a) own range = subst IsActor own range.0
+actor_of nodes t (event.Put u a) own range = subst IsActor own range.0
+actor_of nodes t (event.Unlock u a) own range = subst IsActor own range.0
+actor_of nodes t (event.Shut u) own range = absurd own
+actor_of nodes t (event.Collect n) own range = absurd own
 
 module _ (farm : Farm) (s : State) (st : Stands farm s) (t : TxnId) (actor : IsActor t) where
   pub slot_there : t.actor < length farm.slots.items

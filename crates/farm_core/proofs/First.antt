@@ -7,7 +7,7 @@ use Rattle.a1_base.specs.declared.place.TxnId.{TxnId}
 use Rattle.object_region.specs.Occupancy.{region_count, same_addr, IsPlace}
 use Rattle.farm_node.specs.declared.entry.Start.{Start}
 use Rattle.farm_node.specs.declared.entry.Entry.{Entry}
-use Rattle.farm_node.specs.declared.entry.Entry.TheVariants.{Made}
+use Rattle.farm_node.specs.declared.entry.Entry.TheVariants as entry
 use Rattle.farm_node.specs.Cell.{Bytes, loaded_cell}
 use Rattle.farm_node.specs.NodeState.{occupancy, loaded_cells, begun, Loads, Lawful, replay, IsStart}
 use Rattle.a1_base.specs.Stamps.{IsStamp}
@@ -47,9 +47,9 @@ loaded_free t a stamp (x ∷ xs) h = by (loaded_free t a stamp xs h) (same_addr 
   by more true = λ has. absurd has
   by more false = more
 
-held_first : (t : TxnId) (a : Addr) (m : Start) → 0 < t.actor → Lawful (Made m ∷ []) → HeldAt t unbegun a (Made m ∷ [])
+held_first : (t : TxnId) (a : Addr) (m : Start) → 0 < t.actor → Lawful (entry.Made m ∷ []) → HeldAt t unbegun a (entry.Made m ∷ [])
 held_first t a m actor lawful =
-    let end : Ends a (Made m ∷ []) = ends a (Made m ∷ []) lawful in
+    let end : Ends a (entry.Made m ∷ []) = ends a (entry.Made m ∷ []) lawful in
     record {
       below = end.tells.below;
       puts = λ i there mine. let is : t.actor ≡ 0 = ap (λ (u : TxnId). u.actor) (sym mine ∙ loaded_nobody a m.stamp m.heap i there) in absurd (omega arith);
@@ -119,7 +119,7 @@ place_of m nodes n a low there at_home number count =
     ((a.region / nodes, quotient, whole ∙ (λ i. sym number i + a.region / nodes * sym count i)), there.1)
 
 listed_loaded : (clock nodes n : ℕ) (a : Addr) (bytes : Bytes) (m : Start) → 0 < nodes → IsAddr nodes a → a.region % nodes ≡ n → loaded_cells m.stamp m.heap a ≡ None
-    → Listed clock nodes n (Made m ∷ []) → Listed clock nodes n (Made (record m { heap = (a, bytes) ∷ m.heap }) ∷ [])
+    → Listed clock nodes n (entry.Made m ∷ []) → Listed clock nodes n (entry.Made (record m { heap = (a, bytes) ∷ m.heap }) ∷ [])
 listed_loaded clock nodes n a bytes m low there at_home empty l =
     let b : IsStart m = l.lawful.0 in
     let stamp : m.stamp ≤ clock = l.low.floor in

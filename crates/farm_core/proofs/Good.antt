@@ -6,7 +6,7 @@ use Rattle.a1_base.specs.declared.place.Addr.{Addr}
 use Rattle.a1_base.specs.declared.place.TxnId.{TxnId}
 use Rattle.farm_node.specs.declared.entry.Start.{Start}
 use Rattle.farm_node.specs.declared.entry.Entry.{Entry}
-use Rattle.farm_node.specs.declared.entry.Entry.TheVariants.{Made, Open, Shut, Read, Alloc, Lock, Check, Put, Unlock, Collect}
+use Rattle.farm_node.specs.declared.entry.Entry.TheVariants as entry
 use Rattle.farm_node.specs.Cell.{same_txn}
 use Rattle.farm_node.specs.NodeState.{NodeState, Fits, after, Lawful, replay}
 use Rattle.a1_base.specs.Stamps.{IsStamp}
@@ -41,7 +41,7 @@ pub record Sane (clock : ℕ) (begins : ℕ → ℕ) (t : TxnId) (x : Transactio
 pub record SameIn (log : List Entry) (t : TxnId) (a : Addr) (r w : ℕ) : Type 0 where
   pub before : List Entry
   pub rest : List Entry
-  pub is : log ≡ before ++ Check t a r w (Ok tt) ∷ rest
+  pub is : log ≡ before ++ entry.Check t a r w (Ok tt) ∷ rest
 
 abbrev pub HeldAt : TxnId → Transaction → Addr → List Entry → Type 0
 HeldAt t x a log = Held t x a ((replay log).cells a) (replay log).past (replay log).floor (story a log)
@@ -50,7 +50,7 @@ abbrev pub SameAt : TxnId → Transaction → Addr → List Entry → Type 0
 SameAt t x a log = x.is_same a ≡ true → SameIn log t a x.read_stamp x.write_stamp
 
 abbrev pub IsFirst : List Entry → Type 0
-IsFirst log = (m : Start) × (log ≡ Made m ∷ [])
+IsFirst log = (m : Start) × (log ≡ entry.Made m ∷ [])
 
 -- all but the pins
 pub record Base (s : State) : Type 0 where
@@ -78,19 +78,19 @@ pub record Good (s : State) : Type 0 where
 -- one entry more
 
 kept_after : (p : NodeState) (e : Entry) → ((after p e).node ≡ p.node) × ((after p e).nodes ≡ p.nodes) × ((after p e).actors ≡ p.actors)
-kept_after p (Made m) = (refl, refl, refl)
-kept_after p (Open k c x) = (refl, refl, refl)
-kept_after p (Shut k) = (refl, refl, refl)
-kept_after p (Read k b s (Ok found)) = (refl, refl, refl)
-kept_after p (Read k b s (Err by)) = (refl, refl, refl)
-kept_after p (Alloc u r v placed) = (refl, refl, refl)
-kept_after p (Lock u b r value (Ok given)) = (refl, refl, refl)
-kept_after p (Lock u b r value (Err fault)) = (refl, refl, refl)
-kept_after p (Check u b r w (Ok same)) = (refl, refl, refl)
-kept_after p (Check u b r w (Err fault)) = (refl, refl, refl)
-kept_after p (Put u b w) = (refl, refl, refl)
-kept_after p (Unlock u b) = (refl, refl, refl)
-kept_after p (Collect k f removed) = (refl, refl, refl)
+kept_after p (entry.Made m) = (refl, refl, refl)
+kept_after p (entry.Open k c x) = (refl, refl, refl)
+kept_after p (entry.Shut k) = (refl, refl, refl)
+kept_after p (entry.Read k b s (Ok found)) = (refl, refl, refl)
+kept_after p (entry.Read k b s (Err by)) = (refl, refl, refl)
+kept_after p (entry.Alloc u r v placed) = (refl, refl, refl)
+kept_after p (entry.Lock u b r value (Ok given)) = (refl, refl, refl)
+kept_after p (entry.Lock u b r value (Err fault)) = (refl, refl, refl)
+kept_after p (entry.Check u b r w (Ok same)) = (refl, refl, refl)
+kept_after p (entry.Check u b r w (Err fault)) = (refl, refl, refl)
+kept_after p (entry.Put u b w) = (refl, refl, refl)
+kept_after p (entry.Unlock u b) = (refl, refl, refl)
+kept_after p (entry.Collect k f removed) = (refl, refl, refl)
 
 listed_more : (clock nodes n : ℕ) (log : List Entry) (e : Entry) → Listed clock nodes n log → Fits (replay log) e → LowEntry clock e → Listed clock nodes n (log ++ e ∷ [])
 listed_more clock nodes n log e l fits low =
@@ -113,7 +113,7 @@ same_more : (t : TxnId) (a : Addr) (r w : ℕ) (log : List Entry) (e : Entry) �
 same_more t a r w log e s = record {
   before = s.before;
   rest = s.rest ++ e ∷ [];
-  is = ap (λ (es : List Entry). es ++ e ∷ []) s.is ∙ append_assoc s.before (Check t a r w (Ok tt) ∷ s.rest) (e ∷ []);
+  is = ap (λ (es : List Entry). es ++ e ∷ []) s.is ∙ append_assoc s.before (entry.Check t a r w (Ok tt) ∷ s.rest) (e ∷ []);
 }
 
 pub home_low : (s : State) (a : Addr) → 0 < s.nodes → home s a < s.nodes
@@ -264,24 +264,24 @@ base_loading_over s b = record { count = b.count; clock = b.clock; lists = b.lis
 -- the pins
 
 abbrev pub NoPin : Entry → Type 0
-NoPin (Open k c x) = ⊥
-NoPin (Shut k) = ⊥
+NoPin (entry.Open k c x) = ⊥
+NoPin (entry.Shut k) = ⊥
 NoPin e = Unit {0}
 
 pins_still : (p : NodeState) (e : Entry) → NoPin e → (k : ℕ) → (after p e).pins k ≡ p.pins k
-pins_still p (Made m) bare k = refl
-pins_still p (Open j c x) bare k = absurd bare
-pins_still p (Shut j) bare k = absurd bare
-pins_still p (Read j b s (Ok found)) bare k = refl
-pins_still p (Read j b s (Err by)) bare k = refl
-pins_still p (Alloc u r v placed) bare k = refl
-pins_still p (Lock u b r value (Ok given)) bare k = refl
-pins_still p (Lock u b r value (Err fault)) bare k = refl
-pins_still p (Check u b r w (Ok same)) bare k = refl
-pins_still p (Check u b r w (Err fault)) bare k = refl
-pins_still p (Put u b w) bare k = refl
-pins_still p (Unlock u b) bare k = refl
-pins_still p (Collect j f removed) bare k = refl
+pins_still p (entry.Made m) bare k = refl
+pins_still p (entry.Open j c x) bare k = absurd bare
+pins_still p (entry.Shut j) bare k = absurd bare
+pins_still p (entry.Read j b s (Ok found)) bare k = refl
+pins_still p (entry.Read j b s (Err by)) bare k = refl
+pins_still p (entry.Alloc u r v placed) bare k = refl
+pins_still p (entry.Lock u b r value (Ok given)) bare k = refl
+pins_still p (entry.Lock u b r value (Err fault)) bare k = refl
+pins_still p (entry.Check u b r w (Ok same)) bare k = refl
+pins_still p (entry.Check u b r w (Err fault)) bare k = refl
+pins_still p (entry.Put u b w) bare k = refl
+pins_still p (entry.Unlock u b) bare k = refl
+pins_still p (entry.Collect j f removed) bare k = refl
 
 pinned_adding : (s : State) (n : ℕ) (e : Entry) → Pinned s → Lawful (s.logs n) → NoPin e → Pinned (adding n e s)
 pinned_adding s n e p lawful bare = record {

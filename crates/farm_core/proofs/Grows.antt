@@ -8,7 +8,7 @@ use Rattle.farm_node.specs.declared.entry.CheckFault.{CheckFault}
 use Rattle.farm_node.specs.declared.entry.Entry.{Entry}
 use Rattle.farm_node.specs.Cell.{Bytes, read_answer, lock_answer, check_answer}
 use Rattle.farm_core.specs.declared.event.Event.{Event}
-use Rattle.farm_core.specs.declared.event.Event.TheVariants.{Load, Begin, Read, Alloc, Lock, Draw, Check, Put, Unlock, Shut, Collect}
+use Rattle.farm_core.specs.declared.event.Event.TheVariants as event
 use Rattle.farm_core.specs.declared.event.Answer.{Answer}
 use Rattle.farm_core.specs.Machine.{Unbegun, Installing, Refused, Transaction, begun_at, in_stage, with_read, with_locked, with_same, drawn_at, ended, State, home, node_of, adding, adding_to_all, moving, Reads, Locks, Checks, Meets, Acts, Steps}
 use Rattle.farm_core.proofs.Good.{Good, grown, moved}
@@ -95,8 +95,8 @@ module _ (s : State) (started : s.loading ≡ false) where
   grows_check t a r w (Err fault) x next acts = moves _ next acts.1 (grows_both (home s a) _ t (in_stage Refused) (refused_stays t))
 
   grows_act : (e : Event) (x : Answer) (next : State) → Good s → Meets s e → Acts s e x next → Grows s next
-  grows_act (Load a bytes) x next g meets acts = let loading : s.loading ≡ true = meets.0 in absurd (cc)
-  grows_act (Begin t) x next g meets acts = moves _ next acts.1 (record {
+  grows_act (event.Load a bytes) x next g meets acts = let loading : s.loading ≡ true = meets.0 in absurd (cc)
+  grows_act (event.Begin t) x next g meets acts = moves _ next acts.1 (record {
     nodes = refl;
     started = refl;
     logs = (grows_adding_to_all s started _).logs;
@@ -105,23 +105,23 @@ module _ (s : State) (started : s.loading ≡ false) where
         let number : t.number ≡ s.begins t.actor + 1 = meets.1 in
         absurd (omega arith))).begun;
   })
-  grows_act (Read t a) x next g meets acts = grows_read t a (s.transactions t).read_stamp (read_answer (s.transactions t).read_stamp ((node_of s a).cells a)) x next acts
-  grows_act (Alloc t n bytes) x next g meets acts = ⊎_elim
+  grows_act (event.Read t a) x next g meets acts = grows_read t a (s.transactions t).read_stamp (read_answer (s.transactions t).read_stamp ((node_of s a).cells a)) x next acts
+  grows_act (event.Alloc t n bytes) x next g meets acts = ⊎_elim
       (λ y. moves _ next y.2.1 (grows_both n _ t (with_locked y.0) (stays_self (s.transactions t))))
       (λ y. moves _ next y.1.1 (grows_moving s started t (in_stage Refused) (refused_stays t)))
       acts
-  grows_act (Lock t a value) x next g meets acts = grows_lock t a (s.transactions t).read_stamp value (lock_answer t (s.transactions t).read_stamp ((node_of s a).cells a)) x next acts
-  grows_act (Draw t) x next g meets acts = ⊎_elim
+  grows_act (event.Lock t a value) x next g meets acts = grows_lock t a (s.transactions t).read_stamp value (lock_answer t (s.transactions t).read_stamp ((node_of s a).cells a)) x next acts
+  grows_act (event.Draw t) x next g meets acts = ⊎_elim
       (λ y. moves _ next y.1.1 (record { nodes = refl; started = started; logs = λ n. extends_self (s.logs n); begun = (grows_moving s started t (drawn_at (s.clock + 1)) (λ begun. ((λ is. cc), refl))).begun }))
       (λ y. moves _ next y.1.1 (grows_moving s started t (in_stage Refused) (refused_stays t)))
       acts
-  grows_act (Check t a) x next g meets acts =
+  grows_act (event.Check t a) x next g meets acts =
       grows_check t a (s.transactions t).read_stamp (s.transactions t).write_stamp (check_answer (s.transactions t).read_stamp ((node_of s a).cells a)) x next acts
-  grows_act (Put t a) x next g meets acts = moves _ next acts.1 (grows_both (home s a) _ t (in_stage Installing) (λ begun. ((λ is. cc), refl)))
-  grows_act (Unlock t a) x next g meets acts = moves _ next acts.1 (grows_both (home s a) _ t (in_stage Refused) (refused_stays t))
-  grows_act (Shut t) x next g meets acts = moves _ next acts.1
+  grows_act (event.Put t a) x next g meets acts = moves _ next acts.1 (grows_both (home s a) _ t (in_stage Installing) (λ begun. ((λ is. cc), refl)))
+  grows_act (event.Unlock t a) x next g meets acts = moves _ next acts.1 (grows_both (home s a) _ t (in_stage Refused) (refused_stays t))
+  grows_act (event.Shut t) x next g meets acts = moves _ next acts.1
       (grows_twice s (adding_to_all _ s) (moving t ended (adding_to_all _ s)) (grows_adding_to_all s started _) (grows_moving (adding_to_all _ s) started t ended (stays_self (s.transactions t))))
-  grows_act (Collect n) x next g meets acts = moves _ next acts.1 (record { nodes = refl; started = refl; logs = (grows_adding s started n _).logs; begun = λ t. stays_self (s.transactions t) })
+  grows_act (event.Collect n) x next g meets acts = moves _ next acts.1 (record { nodes = refl; started = refl; logs = (grows_adding s started n _).logs; begun = λ t. stays_self (s.transactions t) })
 
   pub grows_step : (e : Event) (x : Answer) (next : State) → Good s → Steps s e x next → Grows s next
   grows_step e x next g step = ⊎_elim (λ done. grows_act e x next g done.0 done.1) (λ lacks. moves s next lacks.1.1 (grows_self s started)) step

@@ -6,7 +6,7 @@ use Rattle.object_region.specs.Occupancy.{same_addr}
 use Rattle.version_chain.specs.Versions.{newest}
 use Rattle.farm_node.specs.declared.hold.Hold.{Hold}
 use Rattle.farm_node.specs.declared.entry.Entry.{Entry}
-use Rattle.farm_node.specs.declared.entry.Entry.TheVariants.{Alloc, Lock, Put, Unlock}
+use Rattle.farm_node.specs.declared.entry.Entry.TheVariants as entry
 use Rattle.farm_node.specs.Cell.{Cell, same_txn, is_open as is_free, is_gone}
 use Rattle.farm_node.specs.NodeState.{NodeState, HeldBy}
 use Rattle.farm_node.specs.Story.{Given, gives, Installed, Story}
@@ -66,10 +66,10 @@ pub record Held (t : TxnId) (x : Transaction) (a : Addr) (c : Option Cell) (past
 
 -- an entry of the transaction is one that its phase allows
 abbrev pub Allows : TxnId → Transaction → Entry → Type 0
-Allows t x (Alloc u r v placed) = u ≡ t → (x.is_open ≡ true) × (x.write_stamp ≡ 0) × (r ≡ x.read_stamp)
-Allows t x (Lock u b r new (Ok given)) = u ≡ t → (x.is_open ≡ true) × (x.write_stamp ≡ 0) × (r ≡ x.read_stamp)
-Allows t x (Put u b w) = u ≡ t → (w ≡ x.write_stamp) × (0 < x.write_stamp)
-Allows t x (Unlock u b) = u ≡ t → x.stage ≡ Refused
+Allows t x (entry.Alloc u r v placed) = u ≡ t → (x.is_open ≡ true) × (x.write_stamp ≡ 0) × (r ≡ x.read_stamp)
+Allows t x (entry.Lock u b r new (Ok given)) = u ≡ t → (x.is_open ≡ true) × (x.write_stamp ≡ 0) × (r ≡ x.read_stamp)
+Allows t x (entry.Put u b w) = u ≡ t → (w ≡ x.write_stamp) × (0 < x.write_stamp)
+Allows t x (entry.Unlock u b) = u ≡ t → x.stage ≡ Refused
 Allows t x e = Unit {0}
 
 no_lock : (t : TxnId) (l : Option Hold) → l ≡ None → HasLock t l → ⊥

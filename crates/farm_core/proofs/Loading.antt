@@ -13,8 +13,8 @@ use Rattle.farm_node.specs.Cell.{Bytes, Cell, loaded_cell}
 use Rattle.farm_node.specs.NodeState.{NodeState, HeldBy, occupancy, Lawful, replay}
 use Rattle.farm_node.specs.State.{with_cell}
 use Rattle.farm_node.specs.Node.{plain_of}
-use Rattle.farm_core.specs.declared.event.Event.TheVariants.{Load}
-use Rattle.farm_core.specs.declared.event.Answer.TheVariants.{Loaded, No}
+use Rattle.farm_core.specs.declared.event.Event.TheVariants as event
+use Rattle.farm_core.specs.declared.event.Answer.TheVariants as answer
 use Rattle.farm_core.specs.declared.farm.Slot.{Slot}
 use Rattle.farm_core.specs.declared.farm.Farm.{Farm}
 use Rattle.farm_core.specs.Machine.{State, home, node_at, node_of, set_log, log_loaded, HoldsLockAt, Meets, IsAddr, IsObject}
@@ -52,7 +52,7 @@ module _ (farm : Farm) (s : State) (st : Stands farm s) (a : Addr) where
   less : home s a < s.nodes
   less = less_home s g a
 
-  pub load_closed : (bytes : Bytes) → farm.loading ≡ false → StepsTo s (Load a bytes) (Ok No) (Stands farm)
+  pub load_closed : (bytes : Bytes) → farm.loading ≡ false → StepsTo s (event.Load a bytes) (Ok answer.No) (Stands farm)
   load_closed bytes closed = (s, inr (λ meets. both_ways s.loading (sym st.loading_is ∙ closed) meets.0, (refl, refl)), st)
 
   module _ (n : ℕ) (is : n ≡ a.region % length farm.nodes.items) (old : Node) (there : old ≡ get_or farm.nodes.items n old) where
@@ -65,7 +65,7 @@ module _ (farm : Farm) (s : State) (st : Stands farm s) (a : Addr) where
     pub here : plain_of old ≡ node_of s a
     here = ap plain_of there ∙ (old_is s g farm.nodes.items st.nodes_stand n old old n_less ∙ ap (node_at s) n_is)
 
-    pub load_taken : (bytes : Bytes) (has : Bool) → has ≡ is_some ((plain_of old).cells a) → has ≡ true → StepsTo s (Load a bytes) (Ok No) (Stands farm)
+    pub load_taken : (bytes : Bytes) (has : Bool) → has ≡ is_some ((plain_of old).cells a) → has ≡ true → StepsTo s (event.Load a bytes) (Ok answer.No) (Stands farm)
     load_taken bytes has says yes_it = (
       s,
       inr (λ meets. some_value ((node_of s a).cells a) (ap (λ (p : NodeState). is_some (p.cells a)) (sym here) ∙ (sym says ∙ yes_it)) meets.1, (refl, refl)),
@@ -91,7 +91,7 @@ module _ (farm : Farm) (s : State) (st : Stands farm s) (a : Addr) where
         abbrev later : State
         later = record s { logs = set_log (home s a) (log_loaded a bytes (s.logs (home s a))) s.logs }
 
-        meets : Meets s (Load a bytes)
+        meets : Meets s (event.Load a bytes)
         meets = (sym st.loading_is ∙ loading, no_value ((node_of s a).cells a) (ap (λ (p : NodeState). is_some (p.cells a)) (sym here) ∙ (sym says ∙ free)))
 
         written : plain_of v ≡ with_cell a (loaded_cell (plain_of old).floor copy) (plain_of old) → plain_of v ≡ replay (log_loaded a bytes (s.logs (home s a)))
@@ -115,12 +115,12 @@ module _ (farm : Farm) (s : State) (st : Stands farm s) (a : Addr) where
 
         pub load_stands : (after : Farm) → IsAddr (length farm.nodes.items) a → IsObject bytes → plain_of v ≡ with_cell a (loaded_cell (plain_of old).floor copy) (plain_of old)
             → after.nodes.items ≡ set farm.nodes.items n v → after.clock ≡ farm.clock → after.loading ≡ farm.loading → after.slots.items ≡ farm.slots.items
-            → StepsTo s (Load a bytes) (Ok Loaded) (Stands after)
+            → StepsTo s (event.Load a bytes) (Ok answer.Loaded) (Stands after)
         load_stands after range object made nodes_are clock_is loading_is slots_are = (
           later,
           inl (meets, (refl, refl)),
           record {
-            reached = reached_more s (Load a bytes) Loaded later st.reached (subst (λ (k : ℕ). IsAddr k a) st.nodes_stand.number range, object) (inl (meets, (refl, refl))) refl;
+            reached = reached_more s (event.Load a bytes) answer.Loaded later st.reached (subst (λ (k : ℕ). IsAddr k a) st.nodes_stand.number range, object) (inl (meets, (refl, refl))) refl;
             clock_is = clock_is ∙ st.clock_is;
             loading_is = loading_is ∙ st.loading_is;
             nodes_stand = subst (λ (ns : List Node). NodesStand ns later.nodes later.logs) (sym nodes_are) (nodes_after made);

@@ -5,7 +5,7 @@ use Rattle.a1_base.specs.declared.limits.TheConstants.{ACTOR_LIMIT}
 use Rattle.a1_base.specs.declared.place.Addr.{Addr}
 use Rattle.a1_base.specs.declared.place.TxnId.{TxnId}
 use Rattle.farm_node.specs.declared.entry.Entry.{Entry}
-use Rattle.farm_node.specs.declared.entry.Entry.TheVariants.{Open, Shut}
+use Rattle.farm_node.specs.declared.entry.Entry.TheVariants as entry
 use Rattle.farm_node.specs.Cell.{same_txn}
 use Rattle.farm_node.specs.NodeState.{NodeState, Fits}
 use Rattle.farm_node.proofs.Sound.{txn_eq, txn_self}
@@ -30,10 +30,10 @@ module _ (s : State) (g : Good s) where
 
   module _ (t : TxnId) (actor : 0 < t.actor) (few : t.actor ≤ ACTOR_LIMIT) (none : NoneOpen s t.actor) (next_number : t.number ≡ s.begins t.actor + 1) where
     abbrev open_entry : Entry
-    open_entry = Open t.actor s.clock s.clock
+    open_entry = entry.Open t.actor s.clock s.clock
 
     abbrev opened : State
-    opened = counting_begin t.actor (adding_to_all (Open t.actor s.clock s.clock) (loading_over s))
+    opened = counting_begin t.actor (adding_to_all (entry.Open t.actor s.clock s.clock) (loading_over s))
 
     abbrev begun : State
     begun = moving t (λ x. begun_at s.clock) opened
@@ -54,7 +54,7 @@ module _ (s : State) (g : Good s) where
     counted = next_number ∙ sym (ap (λ (b : Bool). cond b (s.begins t.actor + 1) (s.begins t.actor)) (eq-eqb t.actor t.actor refl))
 
     base_opened : Base opened
-    base_opened = base_counting (adding_to_all (Open t.actor s.clock s.clock) (loading_over s)) t.actor
+    base_opened = base_counting (adding_to_all (entry.Open t.actor s.clock s.clock) (loading_over s)) t.actor
         (base_adding_to_all (loading_over s) open_entry (base_loading_over s g.base) refl (λ u. tt) open_fits tt)
         none
 
@@ -87,26 +87,26 @@ module _ (s : State) (g : Good s) where
           let differ : t ≢ u = (λ same. eqb-false t.actor k is (ap (λ (z : TxnId). z.actor) same ∙ actor_is)) in
           sym (ap (λ (x : Transaction). x.is_open) (apart_stays t u (begun_at s.clock) s.transactions differ)) ∙ closed u actor_is)
 
-    pub good_begin : (next : State) → next ≡ loading_over (moving t (λ x. begun_at s.clock) (counting_begin t.actor (adding_to_all (Open t.actor s.clock s.clock) s))) → Good next
+    pub good_begin : (next : State) → next ≡ loading_over (moving t (λ x. begun_at s.clock) (counting_begin t.actor (adding_to_all (entry.Open t.actor s.clock s.clock) s))) → Good next
     good_begin next is = subst Good (sym is) (record { base = base_begun; pins = pins_begun })
 
   -- shut
 
   module _ (t : TxnId) (is_open : (s.transactions t).is_open ≡ true) (free : HoldsLock s t → ⊥) where
     abbrev unpinned : State
-    unpinned = adding_to_all (Shut t.actor) s
+    unpinned = adding_to_all (entry.Shut t.actor) s
 
     abbrev shut : State
     shut = moving t ended unpinned
 
     base_unpinned : Base unpinned
-    base_unpinned = base_adding_to_all s (Shut t.actor) g.base (started s g t is_open) (λ u. tt) (λ n less. ((s.transactions t).read_stamp, g.pins.open_at t n less is_open)) tt
+    base_unpinned = base_adding_to_all s (entry.Shut t.actor) g.base (started s g t is_open) (λ u. tt) (λ n less. ((s.transactions t).read_stamp, g.pins.open_at t n less is_open)) tt
 
     holds_none : (a : Addr) → Holds t ((node_at unpinned (home s a)).cells a) → ⊥
     holds_none a has = free (
       a,
       holds_held (node_at s (home s a)) t a
-          (subst (λ (p : NodeState). Holds t (p.cells a)) (all_grown_node s g (home s a) (Shut t.actor) (less_home s g a)) has),
+          (subst (λ (p : NodeState). Holds t (p.cells a)) (all_grown_node s g (home s a) (entry.Shut t.actor) (less_home s g a)) has),
     )
 
     base_shut : Base shut
@@ -117,7 +117,7 @@ module _ (s : State) (g : Good s) where
         (base_unpinned.apart t)
 
     unpin_is : (n : ℕ) → n < s.nodes → (k : ℕ) → (node_at shut n).pins k ≡ cond (eqb t.actor k) None ((node_at s n).pins k)
-    unpin_is n less k = ap (λ (p : NodeState). p.pins k) (all_grown_node s g n (Shut t.actor) less)
+    unpin_is n less k = ap (λ (p : NodeState). p.pins k) (all_grown_node s g n (entry.Shut t.actor) less)
 
     -- one is open for each actor
     sole : (u : TxnId) → (s.transactions u).is_open ≡ true → t.actor ≡ u.actor → t ≡ u
@@ -146,5 +146,5 @@ module _ (s : State) (g : Good s) where
           let differ : t ≢ u = (λ same. eqb-false t.actor k is (ap (λ (z : TxnId). z.actor) same ∙ actor_is)) in
           sym (ap (λ (x : Transaction). x.is_open) (apart_stays t u (ended (s.transactions t)) s.transactions differ)) ∙ closed u actor_is)
 
-    pub good_shut : (next : State) → next ≡ moving t ended (adding_to_all (Shut t.actor) s) → Good next
+    pub good_shut : (next : State) → next ≡ moving t ended (adding_to_all (entry.Shut t.actor) s) → Good next
     good_shut next is = subst Good (sym is) (record { base = base_shut; pins = pins_shut })

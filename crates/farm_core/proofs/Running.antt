@@ -4,7 +4,7 @@ use Rattle.std.proofs.lemmas.List.{take_more, take_all}
 use Rattle.std.proofs.lemmas.Bool.{eqb-true, eqb-false}
 use Rattle.a1_base.specs.declared.limits.TheConstants.{NODE_LIMIT}
 use Rattle.farm_node.specs.declared.node.Node.{Node}
-use Rattle.farm_node.specs.declared.entry.Entry.TheVariants.{Made}
+use Rattle.farm_node.specs.declared.entry.Entry.TheVariants as entry
 use Rattle.farm_node.specs.NodeState.{replay}
 use Rattle.farm_node.specs.Node.{plain_of, StandsFor}
 use Rattle.farm_core.specs.declared.event.Event.{Event}
@@ -61,16 +61,16 @@ plains_front (x ∷ xs) v (suc n) low = plains_front xs v n (omega arith)
 
 pub record NodesBegun (count number : ℕ) (nodes : List Node) : Type 0 where
   pub made : length nodes ≡ number
-  pub each : (n : ℕ) → n < number → plains nodes n ≡ replay (Made (start_of count n) ∷ [])
+  pub each : (n : ℕ) → n < number → plains nodes n ≡ replay (entry.Made (start_of count n) ∷ [])
 
-pub begun_more : (count number : ℕ) (nodes : List Node) (v : Node) → NodesBegun count number nodes → StandsFor v (Made (start_of count number) ∷ []) → NodesBegun count (number + 1) (nodes ++ v ∷ [])
+pub begun_more : (count number : ℕ) (nodes : List Node) (v : Node) → NodesBegun count number nodes → StandsFor v (entry.Made (start_of count number) ∷ []) → NodesBegun count (number + 1) (nodes ++ v ∷ [])
 begun_more count number nodes v b stands = record {
   made = length-append nodes (v ∷ []) ∙ ap (λ (n : ℕ). n + 1) b.made;
   each = λ n less. by n less (eqb n number) refl;
 } where
-  by : (n : ℕ) → n < number + 1 → (g : Bool) → eqb n number ≡ g → plains (nodes ++ v ∷ []) n ≡ replay (Made (start_of count n) ∷ [])
+  by : (n : ℕ) → n < number + 1 → (g : Bool) → eqb n number ≡ g → plains (nodes ++ v ∷ []) n ≡ replay (entry.Made (start_of count n) ∷ [])
   by n less true is = let same : n ≡ number = eqb-true n number is in
-      plains_last nodes v n (same ∙ sym b.made) ∙ (stands.state ∙ ap (λ (m : ℕ). replay (Made (start_of count m) ∷ [])) (sym same))
+      plains_last nodes v n (same ∙ sym b.made) ∙ (stands.state ∙ ap (λ (m : ℕ). replay (entry.Made (start_of count m) ∷ [])) (sym same))
   by n less false is = let differ : n ≡ number → ⊥ = eqb-false n number is in let made : length nodes ≡ number = b.made in let low : n < number = omega arith in
       plains_front nodes v n (omega arith) ∙ b.each n low
 

@@ -4,7 +4,7 @@ use Rattle.a1_base.specs.declared.place.Addr.{Addr}
 use Rattle.a1_base.specs.declared.place.TxnId.{TxnId}
 use Rattle.farm_node.specs.declared.entry.Found.{Found}
 use Rattle.farm_node.specs.declared.entry.Entry.{Entry}
-use Rattle.farm_node.specs.declared.entry.Entry.TheVariants.{Read}
+use Rattle.farm_node.specs.declared.entry.Entry.TheVariants as entry
 use Rattle.farm_node.specs.NodeState.{Lawful}
 use Rattle.farm_node.specs.Story.{Installed, story, value_at, stamped_bytes}
 use Rattle.farm_node.proofs.ReadsStay.{reads, pins}
@@ -16,11 +16,11 @@ use Rattle.farm_core.proofs.Good.{SameIn, Good, home_low}
 
 -- what an entry answered stands
 
-pub entered_stands : (log : List Entry) (k r : ℕ) (a : Addr) (found : Found) (before rest : List Entry) → Lawful log → log ≡ before ++ Read k a r (Ok found) ∷ rest → ValueStands log a r (stamped_bytes found)
+pub entered_stands : (log : List Entry) (k r : ℕ) (a : Addr) (found : Found) (before rest : List Entry) → Lawful log → log ≡ before ++ entry.Read k a r (Ok found) ∷ rest → ValueStands log a r (stamped_bytes found)
 entered_stands log k r a found before rest lawful is = record {
   whole = ap (λ (es : List Entry). value_at es a r) is ∙ reads.read before rest k a r found (subst Lawful is lawful);
   longer = λ more all.
-      let parts : log ++ more ≡ before ++ Read k a r (Ok found) ∷ (rest ++ more) = ap (λ (es : List Entry). es ++ more) is ∙ append_assoc before (Read k a r (Ok found) ∷ rest) more in
+      let parts : log ++ more ≡ before ++ entry.Read k a r (Ok found) ∷ (rest ++ more) = ap (λ (es : List Entry). es ++ more) is ∙ append_assoc before (entry.Read k a r (Ok found) ∷ rest) more in
       ap (λ (es : List Entry). value_at es a r) parts ∙ reads.read before (rest ++ more) k a r found (subst Lawful parts all);
 }
 

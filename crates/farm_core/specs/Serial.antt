@@ -5,16 +5,16 @@ use Rattle.a1_base.specs.declared.place.Addr.{Addr}
 use Rattle.a1_base.specs.declared.place.TxnId.{TxnId}
 use Rattle.farm_node.specs.declared.entry.Found.{Found}
 use Rattle.farm_node.specs.declared.entry.Entry.{Entry}
-use Rattle.farm_node.specs.declared.entry.Entry.TheVariants.{Read as ReadEntry}
+use Rattle.farm_node.specs.declared.entry.Entry.TheVariants as entry
 use Rattle.farm_node.specs.Cell.{Bytes, found_at}
 use Rattle.farm_node.specs.NodeState.{Lawful}
 use Rattle.farm_node.specs.Story.{Installed, story, value_at, stamped_bytes}
 use Rattle.farm_node.specs.Laws.{versions_at}
 use Rattle.a1_base.specs.Lists.{IsAmong}
 use Rattle.farm_core.specs.declared.event.Event.{Event}
-use Rattle.farm_core.specs.declared.event.Event.TheVariants.{Read}
+use Rattle.farm_core.specs.declared.event.Event.TheVariants as event
 use Rattle.farm_core.specs.declared.event.Answer.{Answer}
-use Rattle.farm_core.specs.declared.event.Answer.TheVariants.{Value, Absent}
+use Rattle.farm_core.specs.declared.event.Answer.TheVariants as answer
 use Rattle.farm_core.specs.Machine.{Installing, State, home, node_at, HoldsLock, Runs, fresh}
 
 -- P holds of the events of every run, of their answers, and of the state that they leave
@@ -32,8 +32,8 @@ pub record ValueStands (log : List Entry) (a : Addr) (stamp : ℕ) (value : Opti
 
 -- what a read was answered is the value at the read stamp
 abbrev pub AnswerStands : State → Event → Answer → Type 0
-AnswerStands s (Read t a) (Value stamp bytes) = ValueStands (log_of s a) a (s.transactions t).read_stamp (Some (stamp, bytes))
-AnswerStands s (Read t a) (Absent stamp) = ValueStands (log_of s a) a (s.transactions t).read_stamp None
+AnswerStands s (event.Read t a) (answer.Value stamp bytes) = ValueStands (log_of s a) a (s.transactions t).read_stamp (Some (stamp, bytes))
+AnswerStands s (event.Read t a) (answer.Absent stamp) = ValueStands (log_of s a) a (s.transactions t).read_stamp None
 AnswerStands s e x = Unit {0}
 
 abbrev pub EachAnswer : (Event → Answer → Type 0) → List Event → List Answer → Type 0
@@ -45,7 +45,7 @@ pub record ReadsWhole (events : List Event) (answers : List Answer) (s : State) 
   -- every value that a read event was answered
   pub answered : EachAnswer (AnswerStands s) events answers
   -- every value in a read's entry
-  pub entered : (n k r : ℕ) (a : Addr) (found : Found) (before rest : List Entry) → n < s.nodes → s.logs n ≡ before ++ ReadEntry k a r (Ok found) ∷ rest
+  pub entered : (n k r : ℕ) (a : Addr) (found : Found) (before rest : List Entry) → n < s.nodes → s.logs n ≡ before ++ entry.Read k a r (Ok found) ∷ rest
       → ValueStands (s.logs n) a r (stamped_bytes found)
 
 -- it has begun to install, and nothing is left to install

@@ -9,17 +9,17 @@ use Rattle.object_region.specs.Occupancy.{same_addr}
 use Rattle.farm_node.specs.declared.node.Node.{Node}
 use Rattle.farm_node.specs.declared.entry.Entry.{Entry}
 use Rattle.farm_node.specs.declared.entry.CheckFault.{CheckFault}
-use Rattle.farm_node.specs.declared.entry.CheckFault.TheVariants.{Held, Changed}
+use Rattle.farm_node.specs.declared.entry.CheckFault.TheVariants as check_fault
 use Rattle.farm_node.specs.declared.faults.ReadFault.{ReadFault}
-use Rattle.farm_node.specs.declared.faults.ReadFault.TheVariants.{Held as ReadHeld, Memory as NoReadMemory}
+use Rattle.farm_node.specs.declared.faults.ReadFault.TheVariants as reading_fault
 use Rattle.farm_node.specs.declared.faults.LockFault.{LockFault}
-use Rattle.farm_node.specs.declared.faults.LockFault.TheVariants.{Held as LockHeld, Changed as LockChanged, Memory as NoLockMemory}
+use Rattle.farm_node.specs.declared.faults.LockFault.TheVariants as locking_fault
 use Rattle.farm_node.specs.Cell.{same_txn}
 use Rattle.farm_node.specs.NodeState.{NodeState, replay, nowhere}
 use Rattle.farm_node.specs.State.{holds_there, may_lock}
 use Rattle.farm_node.specs.Node.{plain_of}
 use Rattle.farm_core.specs.declared.event.Event.{Event}
-use Rattle.farm_core.specs.declared.event.Event.TheVariants.{Read, Alloc, Lock, Draw, Check, Put, Unlock}
+use Rattle.farm_core.specs.declared.event.Event.TheVariants as event
 use Rattle.farm_core.specs.declared.event.Answer.{Answer}
 use Rattle.farm_core.specs.declared.active.Phase.{Phase}
 use Rattle.farm_core.specs.declared.active.Phase.TheVariants as phase
@@ -114,13 +114,13 @@ pub record AtClock (x : Active) (nodes : List Node) (clock : ℕ) (t : TxnId) (s
 
 -- the event is one of an open transaction, and not its end
 abbrev pub IsOf : TxnId → Event → Type 0
-IsOf t (Read u a) = u ≡ t
-IsOf t (Alloc u n bytes) = u ≡ t
-IsOf t (Lock u a new) = u ≡ t
-IsOf t (Draw u) = u ≡ t
-IsOf t (Check u a) = u ≡ t
-IsOf t (Put u a) = u ≡ t
-IsOf t (Unlock u a) = u ≡ t
+IsOf t (event.Read u a) = u ≡ t
+IsOf t (event.Alloc u n bytes) = u ≡ t
+IsOf t (event.Lock u a new) = u ≡ t
+IsOf t (event.Draw u) = u ≡ t
+IsOf t (event.Check u a) = u ≡ t
+IsOf t (event.Put u a) = u ≡ t
+IsOf t (event.Unlock u a) = u ≡ t
 IsOf t e = ⊥
 
 -- which events have their conditions
@@ -148,25 +148,25 @@ is_none [] = true
 is_none (a ∷ more) = false
 
 abbrev pub meets_in : Active → List Node → TxnId → Event → Bool
-meets_in x nodes t (Read u a) = is_reading x.phase && not (holds_at nodes t a)
-meets_in x nodes t (Alloc u n bytes) = is_reading x.phase
-meets_in x nodes t (Lock u a new) = is_reading x.phase && may_lock_at nodes t a x.read_stamp
-meets_in x nodes t (Draw u) = is_reading x.phase && not (is_none x.locked.items)
-meets_in x nodes t (Check u a) = is_drawn x.phase && ((read_set x.reads).read a && not (holds_at nodes t a))
-meets_in x nodes t (Put u a) = (is_drawn x.phase || is_installing x.phase) && (all_checked x.reads && holds_at nodes t a)
-meets_in x nodes t (Unlock u a) = not (is_installing x.phase) && holds_at nodes t a
+meets_in x nodes t (event.Read u a) = is_reading x.phase && not (holds_at nodes t a)
+meets_in x nodes t (event.Alloc u n bytes) = is_reading x.phase
+meets_in x nodes t (event.Lock u a new) = is_reading x.phase && may_lock_at nodes t a x.read_stamp
+meets_in x nodes t (event.Draw u) = is_reading x.phase && not (is_none x.locked.items)
+meets_in x nodes t (event.Check u a) = is_drawn x.phase && ((read_set x.reads).read a && not (holds_at nodes t a))
+meets_in x nodes t (event.Put u a) = (is_drawn x.phase || is_installing x.phase) && (all_checked x.reads && holds_at nodes t a)
+meets_in x nodes t (event.Unlock u a) = not (is_installing x.phase) && holds_at nodes t a
 meets_in x nodes t e = false
 
 -- what a fault is, but for want of memory
 
 abbrev pub read_fault : ReadFault → Result TxnId Memory
-read_fault (ReadHeld by) = Ok by
-read_fault NoReadMemory = Err (record {})
+read_fault (reading_fault.Held by) = Ok by
+read_fault reading_fault.Memory = Err (record {})
 
 abbrev pub lock_fault : LockFault → Result CheckFault Memory
-lock_fault (LockHeld by) = Ok (Held by)
-lock_fault (LockChanged seen now) = Ok (Changed seen now)
-lock_fault NoLockMemory = Err (record {})
+lock_fault (locking_fault.Held by) = Ok (check_fault.Held by)
+lock_fault (locking_fault.Changed seen now) = Ok (check_fault.Changed seen now)
+lock_fault locking_fault.Memory = Err (record {})
 
 abbrev pub CanActAt : Active → List Node → ℕ → Event → Type 0
 CanActAt x nodes clock e = (t : TxnId) × (s : State) × IsOf t e × Reached s × AtClock x nodes clock t s × Meets s e × InRange s.nodes e

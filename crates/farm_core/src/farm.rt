@@ -1,7 +1,7 @@
 //! The farm: its nodes, its clock and its transactions.
 ghost use Rattle.std.specs.Prelude.{◌≡◌, ◌+◌, ◌<◌, ◌≤◌, ℕ, [], max, take, None, Ok, IfOk, OnOk, All, length, vec_capacity};
 ghost use Rattle.a1_base.specs.declared.limits.TheConstants.{NODE_LIMIT};
-ghost use Rattle.farm_node.specs.declared.entry.Entry.TheVariants.{Open as OpenEntry, Shut as ShutEntry};
+ghost use Rattle.farm_node.specs.declared.entry.Entry.TheVariants as entry;
 ghost use Rattle.a1_base.specs.Stamps.{IsStamp};
 ghost use Rattle.farm_core.specs.declared.event.Event.TheVariants as event;
 ghost use Rattle.farm_core.specs.Machine.{State, InRange, Meets, IsActor, IsAddr, IsObject, fresh};
@@ -256,7 +256,7 @@ fn new_slots(alloc: Global) -> Result<Vec<Slot>, Memory>
 fn open_all(nodes: &mut [Node], actor: u32, stamp: u64)
     requires actor { (0 < actor) × IsStamp stamp }
     requires free { (n : ℕ) → n < length nodes.old → (actor ≤ (plains nodes.old n).actors) × ((plains nodes.old n).pins actor ≡ None) }
-    ensures { AddsEach (λ p. OpenEntry actor stamp (max stamp p.floor)) nodes.old nodes.new }
+    ensures { AddsEach (λ p. entry.Open actor stamp (max stamp p.floor)) nodes.old nodes.new }
 {
     for node in nodes.iter_mut() {
         node.open(actor, stamp);
@@ -266,7 +266,7 @@ fn open_all(nodes: &mut [Node], actor: u32, stamp: u64)
 // Takes an actor's pin away from each node.
 fn shut_all(nodes: &mut [Node], actor: u32)
     requires { (n : ℕ) → n < length nodes.old → (x : ℕ) × ((plains nodes.old n).pins actor ≡ Some x) }
-    ensures { AddsEach (λ p. ShutEntry actor) nodes.old nodes.new }
+    ensures { AddsEach (λ p. entry.Shut actor) nodes.old nodes.new }
 {
     for node in nodes.iter_mut() {
         node.shut(actor);
