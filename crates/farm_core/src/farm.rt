@@ -39,17 +39,17 @@ impl Slot {
         nodes: &mut [Node],
         clock: &mut u64,
         alloc: Global,
-        t: TxnId,
+        transaction: TxnId,
         event: &Event,
     ) -> Result<Answer, Memory>
-        requires { (s : State) × Reached s × SlotAt self.old nodes.old clock.old t s × IsOf t event.now × InRange s.nodes event.now }
-        ensures { (s : State) → Reached s → SlotAt self.old nodes.old clock.old t s → IsOf t event.now → Stepped t s event.now result (SlotAt self.new nodes.new clock.new t) }
+        requires { (s : State) × Reached s × SlotAt self.old nodes.old clock.old transaction s × IsOf transaction event.now × InRange s.nodes event.now }
+        ensures { (s : State) → Reached s → SlotAt self.old nodes.old clock.old transaction s → IsOf transaction event.now → Stepped transaction s event.now result (SlotAt self.new nodes.new clock.new transaction) }
     {
-        if self.begins != t.number {
+        if self.begins != transaction.number {
             return Ok(Answer::No);
         }
         match &mut self.open {
-            Some(active) => active.advance(nodes, clock, alloc, t, event),
+            Some(active) => active.advance(nodes, clock, alloc, transaction, event),
             None => Ok(Answer::No),
         }
     }
@@ -62,17 +62,17 @@ impl Slot {
     }
 
     // Ends the transaction, if it is open and holds no lock, and says whether.
-    fn shut(&mut self, nodes: &[Node], t: TxnId) -> bool
+    fn shut(&mut self, nodes: &[Node], transaction: TxnId) -> bool
         requires { 0 < length nodes.now }
-        ensures { Shuts self.old nodes.now t result self.new }
+        ensures { Shuts self.old nodes.now transaction result self.new }
     {
-        if self.begins != t.number {
+        if self.begins != transaction.number {
             return false;
         }
         let Some(active) = &mut self.open else {
             return false;
         };
-        if active.holds_lock(nodes, t) {
+        if active.holds_lock(nodes, transaction) {
             return false;
         }
         self.open = None;
@@ -142,48 +142,48 @@ impl Farm {
     }
 
     // Answers an event of an open transaction, but its end.
-    fn advance(&mut self, alloc: Global, t: TxnId, event: &Event) -> Result<Answer, Memory>
-        requires known { (s : State) × Stands self.old s × IsOf t event.now }
+    fn advance(&mut self, alloc: Global, transaction: TxnId, event: &Event) -> Result<Answer, Memory>
+        requires known { (s : State) × Stands self.old s × IsOf transaction event.now }
         requires range { InRange (length self.old.nodes.items) event.now }
         ensures steps { (s : State) → Stands self.old s → StepsTo s event.now result (Stands self.new) }
         ensures nodes { length self.new.nodes.items ≡ length self.old.nodes.items }
     {
-        self.slots[t.actor as usize].advance(&mut self.nodes, &mut self.clock, alloc, t, event)
+        self.slots[transaction.actor as usize].advance(&mut self.nodes, &mut self.clock, alloc, transaction, event)
     }
 
     // A transaction takes its snapshot.
-    fn begin(&mut self, alloc: Global, t: TxnId) -> Answer
-        requires actor { IsActor t }
+    fn begin(&mut self, alloc: Global, transaction: TxnId) -> Answer
+        requires actor { IsActor transaction }
         requires known { (s : State) × Stands self.old s }
-        ensures steps { (s : State) → Stands self.old s → StepsTo s (event.Begin t) (Ok result) (Stands self.new) }
+        ensures steps { (s : State) → Stands self.old s → StepsTo s (event.Begin transaction) (Ok result) (Stands self.new) }
         ensures nodes { length self.new.nodes.items ≡ length self.old.nodes.items }
     {
-        let actor = t.actor as usize;
-        if !self.slots[actor].may_begin(t.number) {
+        let actor = transaction.actor as usize;
+        if !self.slots[actor].may_begin(transaction.number) {
             return Answer::No;
         }
         let active = Active::begun(alloc, self.clock);
         self.slots[actor] = Slot {
-            begins: t.number,
+            begins: transaction.number,
             open: Some(active),
         };
-        open_all(&mut self.nodes, t.actor, self.clock);
+        open_all(&mut self.nodes, transaction.actor, self.clock);
         self.loading = false;
         Answer::At { stamp: self.clock }
     }
 
     // A transaction ends.
-    fn shut(&mut self, t: TxnId) -> Answer
-        requires actor { IsActor t }
+    fn shut(&mut self, transaction: TxnId) -> Answer
+        requires actor { IsActor transaction }
         requires known { (s : State) × Stands self.old s }
-        ensures steps { (s : State) → Stands self.old s → StepsTo s (event.Shut t) (Ok result) (Stands self.new) }
+        ensures steps { (s : State) → Stands self.old s → StepsTo s (event.Shut transaction) (Ok result) (Stands self.new) }
         ensures nodes { length self.new.nodes.items ≡ length self.old.nodes.items }
     {
-        let actor = t.actor as usize;
-        if !self.slots[actor].shut(&self.nodes, t) {
+        let actor = transaction.actor as usize;
+        if !self.slots[actor].shut(&self.nodes, transaction) {
             return Answer::No;
         }
-        shut_all(&mut self.nodes, t.actor);
+        shut_all(&mut self.nodes, transaction.actor);
         Answer::Shut
     }
 

@@ -5,21 +5,21 @@ use Rattle.farm_core.proofs.farm.Farm.begin.Goals as goal
 
 pub returns-then-not-may_begin-clause-steps : goal.returns-then-not-may_begin-clause-steps
 returns-then-not-may_begin-clause-steps c = λ s st.
-    begin_no c.args.self.now s st c.args.t c.requires.actor c.index.result.now c.index.ensures (sym c.may_begin.ensures ∙ c.if-not-may_begin.true)
+    begin_no c.args.self.now s st c.args.transaction c.requires.actor c.index.result.now c.index.ensures (sym c.may_begin.ensures ∙ c.if-not-may_begin.true)
 
 pub open_all-requires-clause-actor : goal.open_all-requires-clause-actor
-open_all-requires-clause-actor c = let known = c.requires.known in (c.requires.actor.0, clock_low c.args.self.now known.0 known.1 c.args.t c.requires.actor)
+open_all-requires-clause-actor c = let known = c.requires.known in (c.requires.actor.0, clock_low c.args.self.now known.0 known.1 c.args.transaction c.requires.actor)
 
 pub open_all-requires-clause-free : goal.open_all-requires-clause-free
 open_all-requires-clause-free c =
     let known = c.requires.known in
-    let meets = begin_meets c.args.self.now known.0 known.1 c.args.t c.requires.actor c.index.result.now c.index.ensures (sym c.may_begin.ensures ∙ c.if-not-may_begin.false) in
-    begin_free c.args.self.now known.0 known.1 c.args.t c.requires.actor meets.0 c.deref_mut.result.now c.deref_mut.ensures.value
+    let meets = begin_meets c.args.self.now known.0 known.1 c.args.transaction c.requires.actor c.index.result.now c.index.ensures (sym c.may_begin.ensures ∙ c.if-not-may_begin.false) in
+    begin_free c.args.self.now known.0 known.1 c.args.transaction c.requires.actor meets.0 c.deref_mut.result.now c.deref_mut.ensures.value
 
 pub returns-clause-steps : goal.returns-clause-steps
 returns-clause-steps c = λ s st.
-    let meets = begin_meets c.args.self.now s st c.args.t c.requires.actor c.index.result.now c.index.ensures (sym c.may_begin.ensures ∙ c.if-not-may_begin.false) in
+    let meets = begin_meets c.args.self.now s st c.args.transaction c.requires.actor c.index.result.now c.index.ensures (sym c.may_begin.ensures ∙ c.if-not-may_begin.false) in
     let same : length c.open_all.new.nodes ≡ c.args.self.now.nodes.len = omega arith in
     let kept : length c.open_all.new.nodes ≡ length c.deref_mut.result.now = omega arith in
-    begin_stands c.args.self.now s st c.args.t c.requires.actor meets c.begun-active.result c.deref_mut.result.now c.open_all.new.nodes _ c.begun-active.ensures c.deref_mut.ensures.value kept c.open_all.ensures
+    begin_stands c.args.self.now s st c.args.transaction c.requires.actor meets c.begun-active.result c.deref_mut.result.now c.open_all.new.nodes _ c.begun-active.ensures c.deref_mut.ensures.value kept c.open_all.ensures
     (with_items_is c.args.self.now.nodes c.open_all.new.nodes same) refl refl refl
