@@ -1,39 +1,18 @@
 -- What an open transaction's events need, and where they lead.
 use Rattle.std.proofs.Common.{◌≡◌, ◌≢◌, ◌⊎◌, ℕ, ◌+◌, ◌-◌, ◌^◌, ◌%◌, ◌<◌, ◌≤◌, max, Bool, true, false, not, ◌&&◌, ◌||◌, List, [], ◌∷◌, ◌++◌, length, get_or, Option, Some, Result, Ok, Err, sym, refl, ap, ◌∙◌, subst, inl, inr, ⊎_elim, arith}
 use Rattle.std.proofs.Math.ListN.{set}
-use Rattle.a1_base.specs.declared.limits.TheConstants.{LAST_STAMP, STAMP_LIMIT}
-use Rattle.a1_base.specs.declared.place.Addr.{Addr}
-use Rattle.a1_base.specs.declared.place.TxnId.{TxnId}
-use Rattle.a1_base.specs.declared.Memory.{Memory}
-use Rattle.object_region.specs.Occupancy.{LeastFree, IsSpent}
-use Rattle.farm_node.specs.declared.hold.Hold.{Hold}
-use Rattle.farm_node.specs.declared.node.Node.{Node}
-use Rattle.farm_node.specs.declared.entry.Found.{Found}
-use Rattle.farm_node.specs.declared.entry.Locked.{Locked}
-use Rattle.farm_node.specs.declared.entry.Placed.{Placed}
-use Rattle.farm_node.specs.declared.entry.CheckFault.{CheckFault}
-use Rattle.farm_node.specs.declared.faults.ReadFault.{ReadFault}
+use Rattle.farm_core.proofs.Words.{LAST_STAMP, STAMP_LIMIT, Addr, TxnId, Memory, LeastFree, IsSpent, Hold, Node, Found, Locked, Placed, CheckFault, ReadFault}
+use Rattle.farm_core.proofs.Words.{LockFault, Entry, Bytes, Cell, read_answer, lock_answer, check_answer, NodeState, PinnedBy, HeldBy, MayLock, MayPut, Adds}
+use Rattle.farm_core.proofs.Words.{occupancy, IsStamp, plain_of, story, read_entry, lock_entry, AddsIfMade, Answer, Active, ReadMarks, Reading, Drawn}
+use Rattle.farm_core.proofs.Words.{Installing, Refused, Transaction, in_stage, drawn_at, with_read, with_locked, with_same, State, home, node_at, node_of}
+use Rattle.farm_core.proofs.Words.{adding, moving, IsAt, HoldsLockAt, found_answer, fault_answer, Reads, Locks, Checks, reading, checked, read_set, Reached}
+use Rattle.farm_core.proofs.Words.{NodesStand, StandsOpen, in_list, is_unchecked, At, Aside, AtClock, Acted, stage_of, read_fault, lock_fault}
 use Rattle.farm_node.specs.declared.faults.ReadFault.TheVariants as reading_fault
-use Rattle.farm_node.specs.declared.faults.LockFault.{LockFault}
 use Rattle.farm_node.specs.declared.faults.LockFault.TheVariants as locking_fault
-use Rattle.farm_node.specs.declared.entry.Entry.{Entry}
 use Rattle.farm_node.specs.declared.entry.Entry.TheVariants as entry
-use Rattle.farm_node.specs.Cell.{Bytes, Cell, read_answer, lock_answer, check_answer}
-use Rattle.farm_node.specs.NodeState.{NodeState, PinnedBy, HeldBy, MayLock, MayPut, Adds, occupancy}
-use Rattle.a1_base.specs.Stamps.{IsStamp}
-use Rattle.farm_node.specs.Node.{plain_of}
-use Rattle.farm_node.specs.Story.{story}
-use Rattle.farm_node.specs.Answers.{read_entry, lock_entry, AddsIfMade}
 use Rattle.farm_core.specs.declared.event.Event.TheVariants as event
-use Rattle.farm_core.specs.declared.event.Answer.{Answer}
 use Rattle.farm_core.specs.declared.event.Answer.TheVariants as answer
 use Rattle.farm_core.specs.declared.active.Phase.TheVariants as phase
-use Rattle.farm_core.specs.declared.active.Active.{Active}
-use Rattle.farm_core.specs.declared.reads.ReadMarks.{ReadMarks}
-use Rattle.farm_core.specs.Machine.{Reading, Drawn, Installing, Refused, Transaction, in_stage, drawn_at, with_read, with_locked, with_same, State, home, node_at, node_of, adding, moving, IsAt, HoldsLockAt, found_answer, fault_answer, Reads, Locks, Checks}
-use Rattle.farm_core.specs.ReadSet.{reading, checked}
-use Rattle.farm_core.specs.ReadSets.{read_set}
-use Rattle.farm_core.specs.Standing.{Reached, NodesStand, StandsOpen, in_list, is_unchecked, At, Aside, AtClock, Acted, stage_of, read_fault, lock_fault}
 use Rattle.farm_core.proofs.Held.{HasLock, HoldingCell, HasPut, holds_held}
 use Rattle.farm_core.proofs.Good.{Good}
 use Rattle.farm_core.proofs.Phases.{open_stage}

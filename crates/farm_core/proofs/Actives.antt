@@ -1,17 +1,10 @@
 -- What an open transaction stands for after a change.
 use Rattle.std.proofs.Common.{◌≡◌, Bool, true, false, not, ◌&&◌, ◌||◌, List, [], ◌∷◌, ◌++◌, sym, refl, ap, ◌∙◌, ⊎_elim, inl, inr, ◌⊎◌, ℕ}
 use Rattle.std.proofs.lemmas.Bool.{or_cases}
-use Rattle.a1_base.specs.declared.place.Addr.{Addr}
-use Rattle.object_region.specs.Occupancy.{same_addr}
+use Rattle.farm_core.proofs.Words.{Addr, same_addr, Phase, Active, ReadMarks, Stage, Transaction, in_stage, drawn_at, with_read, with_locked, with_same}
+use Rattle.farm_core.proofs.Words.{with_addr, ReadSet, without_addr, reading, checked, read_set, stage_of, in_list, is_unchecked, StandsOpen}
 use Rattle.farm_node.proofs.Addresses.{addr_eq, same_self}
-use Rattle.farm_core.specs.declared.active.Phase.{Phase}
 use Rattle.farm_core.specs.declared.active.Phase.TheVariants as phase
-use Rattle.farm_core.specs.declared.active.Active.{Active}
-use Rattle.farm_core.specs.declared.reads.ReadMarks.{ReadMarks}
-use Rattle.farm_core.specs.Machine.{Stage, Transaction, in_stage, drawn_at, with_read, with_locked, with_same, with_addr}
-use Rattle.farm_core.specs.ReadSet.{ReadSet, without_addr, reading, checked}
-use Rattle.farm_core.specs.ReadSets.{read_set}
-use Rattle.farm_core.specs.Standing.{stage_of, in_list, is_unchecked, StandsOpen}
 
 or_more : (g f l : Bool) → (f ≡ true → l ≡ true) → (g || f) ≡ true → (g || l) ≡ true
 or_more true f l more there = refl

@@ -1,17 +1,10 @@
 -- An event of an open transaction, whichever it is.
 use Rattle.std.proofs.Common.{◌≡◌, ℕ, ◌<◌, Bool, true, false, List, length, Result, Ok, Err, sym, refl, ◌∙◌, subst, inl, inr, arith}
 use Rattle.std.proofs.lemmas.Bool.{both_ways}
-use Rattle.a1_base.specs.declared.Memory.{Memory}
-use Rattle.a1_base.specs.declared.place.TxnId.{TxnId}
-use Rattle.farm_node.specs.declared.node.Node.{Node}
-use Rattle.farm_node.specs.Cell.{Bytes}
-use Rattle.farm_core.specs.declared.event.Event.{Event}
+use Rattle.farm_core.proofs.Words.{Memory, TxnId, Node, Bytes, Event, Answer, Active, State, Meets, InRange, Reached, At, AtClock, Acted, Stepped, ActsOn}
+use Rattle.farm_core.proofs.Words.{CanAct, CanActAt, IsOf, meets_in}
 use Rattle.farm_core.specs.declared.event.Event.TheVariants as event
-use Rattle.farm_core.specs.declared.event.Answer.{Answer}
 use Rattle.farm_core.specs.declared.event.Answer.TheVariants as answer
-use Rattle.farm_core.specs.declared.active.Active.{Active}
-use Rattle.farm_core.specs.Machine.{State, Meets, InRange}
-use Rattle.farm_core.specs.Standing.{Reached, At, AtClock, Acted, Stepped, ActsOn, CanAct, CanActAt, IsOf, meets_in}
 use Rattle.farm_core.proofs.Conditions.{meets_iff}
 
 acted_clock : (z : Active) (nodes : List Node) (clock : ℕ) (t : TxnId) (s : State) (e : Event) (result : Result Answer Memory) → clock ≡ s.clock

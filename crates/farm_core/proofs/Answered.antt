@@ -1,19 +1,11 @@
 -- What a read was answered is in its node's list, and stands.
 use Rattle.std.proofs.Common.{◌≡◌, ◌≢◌, ℕ, ◌<◌, ◌≤◌, ◌%◌, Bool, false, cond, List, [], ◌∷◌, ◌++◌, Option, Some, None, Result, Ok, Err, sym, ap, ◌∙◌, subst, ⊎_elim, append_assoc}
-use Rattle.a1_base.specs.declared.limits.TheConstants.{NODE_LIMIT}
-use Rattle.a1_base.specs.declared.place.Addr.{Addr}
-use Rattle.a1_base.specs.declared.place.TxnId.{TxnId}
-use Rattle.farm_node.specs.declared.entry.Found.{Found}
-use Rattle.farm_node.specs.declared.entry.Entry.{Entry}
+use Rattle.farm_core.proofs.Words.{NODE_LIMIT, Addr, TxnId, Found, Entry, Bytes, read_answer, stamped_bytes, Event, Answer, Unbegun, Reading, Transaction}
+use Rattle.farm_core.proofs.Words.{State, home, node_of, adding, moving, with_read, IsAt, found_answer, Reads, Steps, Runs, fresh}
 use Rattle.farm_node.specs.declared.entry.Entry.TheVariants as entry
-use Rattle.farm_node.specs.Cell.{Bytes, read_answer}
-use Rattle.farm_node.specs.Story.{stamped_bytes}
 use Rattle.farm_node.proofs.Sound.{txn_self}
-use Rattle.farm_core.specs.declared.event.Event.{Event}
 use Rattle.farm_core.specs.declared.event.Event.TheVariants as event
-use Rattle.farm_core.specs.declared.event.Answer.{Answer}
 use Rattle.farm_core.specs.declared.event.Answer.TheVariants as answer
-use Rattle.farm_core.specs.Machine.{Unbegun, Reading, Transaction, State, home, node_of, adding, moving, with_read, IsAt, found_answer, Reads, Steps, Runs, fresh}
 use Rattle.farm_core.specs.Serial.{log_of, ValueStands, AnswerStands, EachAnswer, ReadsWhole}
 use Rattle.farm_core.proofs.Good.{Good, home_low}
 use Rattle.farm_core.proofs.First.{good_fresh}

@@ -2,25 +2,12 @@
 use Rattle.std.proofs.Common.{◌≡◌, ℕ, ◌+◌, ◌<◌, ◌≤◌, max, eqb, cond, Bool, true, false, not, is_some, List, length, get_or, Option, Some, None, Ok, sym, refl, ap, ◌∙◌, subst, inl, inr, arith}
 use Rattle.std.proofs.Math.ListN.{set, length-set}
 use Rattle.std.proofs.lemmas.Bool.{and_parts, and_from, both_ways, eqb-true, eq-eqb, ne_eqb}
-use Rattle.a1_base.specs.declared.limits.TheConstants.{ACTOR_LIMIT}
-use Rattle.a1_base.specs.declared.place.Addr.{Addr}
-use Rattle.a1_base.specs.declared.place.TxnId.{TxnId}
-use Rattle.farm_node.specs.declared.hold.Hold.{Hold}
-use Rattle.farm_node.specs.declared.node.Node.{Node}
-use Rattle.farm_node.specs.declared.entry.Entry.{Entry}
+use Rattle.farm_core.proofs.Words.{ACTOR_LIMIT, Addr, TxnId, Hold, Node, Entry, Cell, NodeState, Adds, IsStamp, story, Active, Slot, Farm, begun_at, State}
+use Rattle.farm_core.proofs.Words.{home, node_at, adding_to_all, moving, counting_begin, loading_over, HoldsLockAt, Meets, IsActor, plains, NodesStand}
+use Rattle.farm_core.proofs.Words.{StandsOpen, in_list, OpenStands, SlotStands, Stands, StepsTo, AddsEach, may_begin}
 use Rattle.farm_node.specs.declared.entry.Entry.TheVariants as entry
-use Rattle.farm_node.specs.Cell.{Cell}
-use Rattle.farm_node.specs.NodeState.{NodeState, Adds}
-use Rattle.a1_base.specs.Stamps.{IsStamp}
-use Rattle.farm_node.specs.Story.{story}
 use Rattle.farm_core.specs.declared.event.Event.TheVariants as event
 use Rattle.farm_core.specs.declared.event.Answer.TheVariants as answer
-use Rattle.farm_core.specs.declared.active.Active.{Active}
-use Rattle.farm_core.specs.declared.farm.Slot.{Slot}
-use Rattle.farm_core.specs.declared.farm.Farm.{Farm}
-use Rattle.farm_core.specs.Machine.{begun_at, State, home, node_at, adding_to_all, moving, counting_begin, loading_over, HoldsLockAt, Meets, IsActor}
-use Rattle.farm_core.specs.Standing.{plains, NodesStand, StandsOpen, in_list}
-use Rattle.farm_core.specs.Farms.{OpenStands, SlotStands, Stands, StepsTo, AddsEach, may_begin}
 use Rattle.farm_core.proofs.Held.{HasLock, HoldingCell}
 use Rattle.farm_core.proofs.Good.{Good, NoneOpen}
 use Rattle.farm_core.proofs.Changes.{good, self_moved, other_stays}

@@ -2,22 +2,12 @@
 use Rattle.std.proofs.Common.{◌≡◌, ◌⊎◌, ℕ, ◌<◌, eqb, cond, Bool, true, false, List, [], ◌∷◌, ◌++◌, length, get_or, Option, Some, None, Ok, Err, sym, refl, ap, ◌∙◌, subst, inl, inr, ⊎_elim, arith}
 use Rattle.std.proofs.Math.ListN.{set, length-set}
 use Rattle.std.proofs.lemmas.Bool.{eqb-true, eqb-false}
-use Rattle.a1_base.specs.declared.place.Addr.{Addr}
-use Rattle.a1_base.specs.declared.place.TxnId.{TxnId}
-use Rattle.object_region.specs.Occupancy.{same_addr}
-use Rattle.version_chain.specs.Versions.{Version, cut}
-use Rattle.farm_node.specs.declared.hold.Hold.{Hold}
-use Rattle.farm_node.specs.declared.node.Node.{Node}
-use Rattle.farm_node.specs.declared.entry.Entry.{Entry}
+use Rattle.farm_core.proofs.Words.{Addr, TxnId, same_addr, Version, cut, Hold, Node, Entry, Bytes, Cell, same_txn, raised_to, locked_by, installed, released}
+use Rattle.farm_core.proofs.Words.{goes, collected, NodeState, HeldBy, Adds, set_cell, new_floor, after, replay, plain_of, Active, Transaction, State, home}
+use Rattle.farm_core.proofs.Words.{node_at, adding, set_transaction, moving, HoldsLockAt, Reached, plains, NodesStand, StandsOpen, in_list, At, Aside}
 use Rattle.farm_node.specs.declared.entry.Entry.TheVariants as entry
-use Rattle.farm_node.specs.Cell.{Bytes, Cell, same_txn, raised_to, locked_by, installed, released, goes, collected}
-use Rattle.farm_node.specs.NodeState.{NodeState, HeldBy, Adds, set_cell, new_floor, after, replay}
-use Rattle.farm_node.specs.Node.{plain_of}
 use Rattle.farm_node.proofs.Addresses.{addr_eq}
 use Rattle.farm_node.proofs.Sound.{txn_self}
-use Rattle.farm_core.specs.declared.active.Active.{Active}
-use Rattle.farm_core.specs.Machine.{Transaction, State, home, node_at, adding, set_transaction, moving, HoldsLockAt}
-use Rattle.farm_core.specs.Standing.{Reached, plains, NodesStand, StandsOpen, in_list, At, Aside}
 use Rattle.farm_core.proofs.Lists.{replay_more}
 use Rattle.farm_core.proofs.Held.{HasLock, Holds, holds_held}
 use Rattle.farm_core.proofs.Good.{Good, grown}

@@ -1,23 +1,11 @@
 -- A collection.
 use Rattle.std.proofs.Common.{◌≡◌, ℕ, ◌<◌, ◌≤◌, false, List, length, get_or, Ok, sym, refl, ap, ◌∙◌, subst, inl, ⊎_elim, arith}
 use Rattle.std.proofs.Math.ListN.{set}
-use Rattle.a1_base.specs.declared.limits.TheConstants.{ACTOR_LIMIT, COLLECTOR_ACTOR}
-use Rattle.a1_base.specs.declared.place.Addr.{Addr}
-use Rattle.a1_base.specs.declared.place.TxnId.{TxnId}
-use Rattle.farm_node.specs.declared.node.Node.{Node}
-use Rattle.farm_node.specs.declared.entry.Collected.{Collected}
-use Rattle.farm_node.specs.declared.entry.Entry.{Entry}
+use Rattle.farm_core.proofs.Words.{ACTOR_LIMIT, COLLECTOR_ACTOR, Addr, TxnId, Node, Collected, Entry, Adds, collect_answer, IsStamp, plain_of, Slot, Farm}
+use Rattle.farm_core.proofs.Words.{State, node_at, adding, loading_over, HoldsLockAt, Collects, NodesStand, SlotStands, Stands, StepsTo}
 use Rattle.farm_node.specs.declared.entry.Entry.TheVariants as entry
-use Rattle.farm_node.specs.NodeState.{Adds, collect_answer}
-use Rattle.a1_base.specs.Stamps.{IsStamp}
-use Rattle.farm_node.specs.Node.{plain_of}
 use Rattle.farm_core.specs.declared.event.Event.TheVariants as event
 use Rattle.farm_core.specs.declared.event.Answer.TheVariants as answer
-use Rattle.farm_core.specs.declared.farm.Slot.{Slot}
-use Rattle.farm_core.specs.declared.farm.Farm.{Farm}
-use Rattle.farm_core.specs.Machine.{State, node_at, adding, loading_over, HoldsLockAt, Collects}
-use Rattle.farm_core.specs.Standing.{NodesStand}
-use Rattle.farm_core.specs.Farms.{SlotStands, Stands, StepsTo}
 use Rattle.farm_core.proofs.Good.{Good}
 use Rattle.farm_core.proofs.Changes.{good, old_is, nodes_written, held_adding}
 use Rattle.farm_core.proofs.Farming.{reached_more, slot_kept}

@@ -1,21 +1,12 @@
 -- What is asked of an open transaction and its nodes is the event's condition.
 use Rattle.std.proofs.Common.{◌≡◌, ◌⊎◌, ◌↔◌, ℕ, ◌%◌, ◌<◌, Bool, true, false, not, ◌&&◌, ◌||◌, List, [], ◌∷◌, IsTrue, sym, refl, ap, ◌∙◌, subst, inl, inr, ⊎_elim, arith}
 use Rattle.std.proofs.lemmas.Bool.{and_parts, and_from, not-true, or_cases, both_ways}
-use Rattle.a1_base.specs.declared.place.Addr.{Addr}
-use Rattle.a1_base.specs.declared.place.TxnId.{TxnId}
-use Rattle.farm_node.specs.declared.node.Node.{Node}
-use Rattle.farm_node.specs.NodeState.{NodeState}
-use Rattle.farm_node.specs.State.{holds_there, may_lock}
-use Rattle.farm_node.specs.Story.{story}
+use Rattle.farm_core.proofs.Words.{Addr, TxnId, Node, NodeState, holds_there, may_lock, story, Event, Phase, Active, Reading, Drawn, Installing, Refused}
+use Rattle.farm_core.proofs.Words.{Transaction, State, home, node_of, IsAt, HoldsLockAt, HoldsLock, AllSame, Meets, read_set, all_checked, Reached, plains}
+use Rattle.farm_core.proofs.Words.{plain_at, stage_of, in_list, At, IsOf, is_reading, is_drawn, is_installing, holds_at, may_lock_at, is_none, meets_in}
 use Rattle.farm_node.proofs.Addresses.{same_self}
-use Rattle.farm_core.specs.declared.event.Event.{Event}
 use Rattle.farm_core.specs.declared.event.Event.TheVariants as event
-use Rattle.farm_core.specs.declared.active.Phase.{Phase}
 use Rattle.farm_core.specs.declared.active.Phase.TheVariants as phase
-use Rattle.farm_core.specs.declared.active.Active.{Active}
-use Rattle.farm_core.specs.Machine.{Reading, Drawn, Installing, Refused, Transaction, State, home, node_of, IsAt, HoldsLockAt, HoldsLock, AllSame, Meets}
-use Rattle.farm_core.specs.ReadSets.{read_set, all_checked}
-use Rattle.farm_core.specs.Standing.{Reached, plains, plain_at, stage_of, in_list, At, IsOf, is_reading, is_drawn, is_installing, holds_at, may_lock_at, is_none, meets_in}
 use Rattle.farm_core.proofs.Held.{HasPut, holds_held}
 use Rattle.farm_core.proofs.Good.{Good}
 use Rattle.farm_core.proofs.Phases.{open_stage}

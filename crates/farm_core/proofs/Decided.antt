@@ -1,22 +1,12 @@
 -- A state and an event have one answer.
 use Rattle.std.proofs.Common.{◌≡◌, ◌⊎◌, inl, inr, ◌∙◌, ℕ, ◌+◌, ◌-◌, ◌*◌, ◌^◌, ◌<◌, List, [], ◌∷◌, Option, Result, Ok, Err, true, false, refl, sym, subst, arith, ⊎_elim}
 use Rattle.std.specs.Prelude.{max}
-use Rattle.a1_base.specs.declared.limits.TheConstants.{LAST_STAMP}
-use Rattle.a1_base.specs.declared.place.Addr.{Addr}
-use Rattle.a1_base.specs.declared.place.TxnId.{TxnId}
-use Rattle.object_region.specs.Occupancy.{Occupancy, LeastOfMade, FirstOfNext, LeastFree, IsSpent}
-use Rattle.a1_base.specs.Lists.{IsAmong}
-use Rattle.farm_node.specs.declared.entry.Found.{Found}
-use Rattle.farm_node.specs.declared.entry.Locked.{Locked}
-use Rattle.farm_node.specs.declared.entry.CheckFault.{CheckFault}
+use Rattle.farm_core.proofs.Words.{LAST_STAMP, Addr, TxnId, Occupancy, LeastOfMade, FirstOfNext, LeastFree, IsSpent, IsAmong, Found, Locked, CheckFault, Bytes}
+use Rattle.farm_core.proofs.Words.{read_answer, lock_answer, check_answer, occupancy, Event, Answer, State, node_at, node_of, with_locked, adding, moving}
+use Rattle.farm_core.proofs.Words.{Gives, Reads, Allocates, Locks, Draws, Checks, Acts, Steps, Runs}
 use Rattle.farm_node.specs.declared.entry.Entry.TheVariants as entry
-use Rattle.farm_node.specs.Cell.{Bytes, read_answer, lock_answer, check_answer}
-use Rattle.farm_node.specs.NodeState.{occupancy}
-use Rattle.farm_core.specs.declared.event.Event.{Event}
 use Rattle.farm_core.specs.declared.event.Event.TheVariants as event
-use Rattle.farm_core.specs.declared.event.Answer.{Answer}
 use Rattle.farm_core.specs.declared.event.Answer.TheVariants as answer
-use Rattle.farm_core.specs.Machine.{State, node_at, node_of, with_locked, adding, moving, Gives, Reads, Allocates, Locks, Draws, Checks, Acts, Steps, Runs}
 
 -- ---- one place comes next
 

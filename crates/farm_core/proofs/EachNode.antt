@@ -2,11 +2,7 @@
 use Rattle.std.proofs.Common.{◌≡◌, ◌≢◌, ℕ, ◌+◌, ◌<◌, ◌≤◌, eqb, Bool, true, false, List, length, get_or, sym, refl, ◌∙◌, subst, arith}
 use Rattle.std.proofs.Math.ListN.{set}
 use Rattle.std.proofs.lemmas.Bool.{eqb-true, eqb-false}
-use Rattle.farm_node.specs.declared.node.Node.{Node}
-use Rattle.farm_node.specs.declared.entry.Entry.{Entry}
-use Rattle.farm_node.specs.NodeState.{NodeState, Adds}
-use Rattle.farm_node.specs.Node.{plain_of}
-use Rattle.farm_core.specs.Standing.{plains}
+use Rattle.farm_core.proofs.Words.{Node, Entry, NodeState, Adds, plain_of, plains}
 use Rattle.farm_core.proofs.NodeLists.{plains_index, plains_set, plains_other}
 
 module _ (first nodes : List Node) (i : ℕ) (low : i < length nodes) (d v : Node) (makes : NodeState → Entry) (rest : (n : ℕ) → i ≤ n → plains nodes n ≡ plains first n) where

@@ -2,25 +2,13 @@
 use Rattle.std.proofs.Common.{◌≡◌, ◌≢◌, ◌↔◌, ℕ, ◌-◌, ◌<◌, ◌≤◌, option_to_list, cond, Bool, true, false, List, [], ◌∷◌, ◌++◌, length, get_or, Option, Some, None, Ok, IsTrue, sym, refl, ap, ◌∙◌, subst, inl, inr, ⊎_elim, arith}
 use Rattle.std.proofs.Math.ListN.{set, length-set}
 use Rattle.std.proofs.lemmas.Bool.{both_ways}
-use Rattle.a1_base.specs.declared.limits.TheConstants.{ACTOR_LIMIT}
-use Rattle.a1_base.specs.declared.place.Addr.{Addr}
-use Rattle.a1_base.specs.declared.place.TxnId.{TxnId}
-use Rattle.farm_node.specs.declared.node.Node.{Node}
-use Rattle.farm_node.specs.declared.entry.Entry.{Entry}
+use Rattle.farm_core.proofs.Words.{ACTOR_LIMIT, Addr, TxnId, Node, Entry, same_txn, NodeState, Adds, Active, Slot, Farm, ended, State, adding_to_all, moving}
+use Rattle.farm_core.proofs.Words.{HoldsLock, Meets, IsActor, ReadSet, read_set, Reached, plains, NodesStand, in_list, stage_of, At, AtClock, holds_at}
+use Rattle.farm_core.proofs.Words.{OpenStands, SlotStands, SlotAt, Stands, StepsTo, AddsEach, Shuts}
 use Rattle.farm_node.specs.declared.entry.Entry.TheVariants as entry
-use Rattle.farm_node.specs.Cell.{same_txn}
-use Rattle.farm_node.specs.NodeState.{NodeState, Adds}
 use Rattle.farm_node.proofs.Sound.{txn_self}
 use Rattle.farm_core.specs.declared.event.Event.TheVariants as event
 use Rattle.farm_core.specs.declared.event.Answer.TheVariants as answer
-use Rattle.farm_core.specs.declared.active.Active.{Active}
-use Rattle.farm_core.specs.declared.farm.Slot.{Slot}
-use Rattle.farm_core.specs.declared.farm.Farm.{Farm}
-use Rattle.farm_core.specs.Machine.{ended, State, adding_to_all, moving, HoldsLock, Meets, IsActor}
-use Rattle.farm_core.specs.ReadSet.{ReadSet}
-use Rattle.farm_core.specs.ReadSets.{read_set}
-use Rattle.farm_core.specs.Standing.{Reached, plains, NodesStand, in_list, stage_of, At, AtClock, holds_at}
-use Rattle.farm_core.specs.Farms.{OpenStands, SlotStands, SlotAt, Stands, StepsTo, AddsEach, Shuts}
 use Rattle.farm_core.proofs.Good.{Good}
 use Rattle.farm_core.proofs.Changes.{good, other_stays}
 use Rattle.farm_core.proofs.Actives.{in_front, front_or_last}

@@ -2,25 +2,16 @@
 use Rattle.std.proofs.Common.{◌≡◌, ◌≢◌, ◌⊎◌, ℕ, ◌+◌, ◌^◌, ◌-◌, ◌*◌, ◌%◌, ◌<◌, ◌≤◌, max, cond, Bool, true, false, ◌||◌, List, [], ◌∷◌, ◌++◌, Option, Some, Result, Ok, Err, sym, refl, ap, ◌∙◌, subst, inl, inr, ⊎_elim, arith}
 use Rattle.std.proofs.lemmas.Bool.{eq-eqb, lt-ltb}
 use Rattle.std.proofs.lemmas.Nat.{mod-mul-add}
-use Rattle.a1_base.specs.declared.limits.TheConstants.{COLLECTOR_ACTOR, LAST_STAMP}
-use Rattle.a1_base.specs.declared.place.Addr.{Addr}
-use Rattle.a1_base.specs.declared.place.TxnId.{TxnId}
-use Rattle.object_region.specs.Occupancy.{same_addr, LeastFree}
-use Rattle.farm_node.specs.declared.hold.Hold.{Hold}
-use Rattle.farm_node.specs.declared.entry.Found.{Found}
-use Rattle.farm_node.specs.declared.entry.Locked.{Locked}
-use Rattle.farm_node.specs.declared.entry.CheckFault.{CheckFault}
-use Rattle.farm_node.specs.declared.entry.Entry.{Entry}
+use Rattle.farm_core.proofs.Words.{COLLECTOR_ACTOR, LAST_STAMP, Addr, TxnId, same_addr, LeastFree, Hold, Found, Locked, CheckFault, Entry, Bytes, Cell}
+use Rattle.farm_core.proofs.Words.{read_answer, made_by, locked_by, lock_answer, check_answer, NodeState, occupancy, PinnedBy, MayLock, FitsLock, FitsCheck}
+use Rattle.farm_core.proofs.Words.{after, replay, collect_answer, IsStamp, story, Reading, Drawn, Installing, Refused, with_addr, with_locked, in_stage, State}
+use Rattle.farm_core.proofs.Words.{home, node_at, node_of, set_log, adding, adding_to_all, set_transaction, moving, loading_over, IsAt, HoldsLockAt, AllSame}
+use Rattle.farm_core.proofs.Words.{Reads, Allocates, Locks, Draws, Checks, Collects}
 use Rattle.farm_node.specs.declared.entry.Entry.TheVariants as entry
-use Rattle.farm_node.specs.Cell.{Bytes, Cell, read_answer, made_by, locked_by, lock_answer, check_answer}
-use Rattle.farm_node.specs.NodeState.{NodeState, occupancy, PinnedBy, MayLock, FitsLock, FitsCheck, after, replay, collect_answer}
-use Rattle.a1_base.specs.Stamps.{IsStamp}
-use Rattle.farm_node.specs.Story.{story}
 use Rattle.farm_node.proofs.Addresses.{addr_eq}
 use Rattle.farm_node.proofs.Sound.{txn_self}
 use Rattle.farm_node.proofs.Steps.{Askable, askable}
 use Rattle.farm_node.proofs.ReadsStay.{set_self}
-use Rattle.farm_core.specs.Machine.{Reading, Drawn, Installing, Refused, with_addr, with_locked, in_stage, State, home, node_at, node_of, set_log, adding, adding_to_all, set_transaction, moving, loading_over, IsAt, HoldsLockAt, AllSame, Reads, Allocates, Locks, Draws, Checks, Collects}
 use Rattle.farm_core.proofs.Lists.{replay_more}
 use Rattle.farm_core.proofs.Held.{HasLock, Holds, HoldingCell}
 use Rattle.farm_core.proofs.Good.{Listed, SameIn, Good, home_low, base_loading_over, good_adding}

@@ -2,24 +2,11 @@
 use Rattle.std.proofs.Common.{◌≡◌, ◌≢◌, ℕ, ◌+◌, ◌<◌, ◌≤◌, eqb, cond, Bool, true, false, List, [], ◌∷◌, ◌++◌, length, get_or, get_or-set_other, get_or-set_same, Option, Some, None, Result, Ok, Err, sym, refl, ap, ◌∙◌, subst, ⊎_elim, arith}
 use Rattle.std.proofs.Math.ListN.{set, length-set}
 use Rattle.std.proofs.lemmas.Bool.{eqb-true, eqb-false, lt-ltb}
-use Rattle.a1_base.specs.declared.limits.TheConstants.{ACTOR_LIMIT}
-use Rattle.a1_base.specs.declared.Memory.{Memory}
-use Rattle.a1_base.specs.declared.place.Addr.{Addr}
-use Rattle.a1_base.specs.declared.place.TxnId.{TxnId}
-use Rattle.farm_node.specs.declared.node.Node.{Node}
-use Rattle.farm_node.specs.declared.entry.Entry.{Entry}
-use Rattle.farm_node.specs.Cell.{same_txn}
-use Rattle.farm_node.specs.NodeState.{NodeState, HeldBy, Adds, after, replay}
+use Rattle.farm_core.proofs.Words.{ACTOR_LIMIT, Memory, Addr, TxnId, Node, Entry, same_txn, NodeState, HeldBy, Adds, after, replay, Event, Answer, Active, Slot}
+use Rattle.farm_core.proofs.Words.{Farm, Transaction, State, home, node_at, adding_to_all, HoldsLockAt, Steps, IsActor, InRange, Runs, fresh, Reached, plains}
+use Rattle.farm_core.proofs.Words.{NodesStand, StandsOpen, in_list, Aside, Stepped, IsOf, OpenStands, SlotStands, SlotAt, Stands, StepsTo}
 use Rattle.farm_node.proofs.Sound.{txn_eq}
-use Rattle.farm_core.specs.declared.event.Event.{Event}
 use Rattle.farm_core.specs.declared.event.Event.TheVariants as event
-use Rattle.farm_core.specs.declared.event.Answer.{Answer}
-use Rattle.farm_core.specs.declared.active.Active.{Active}
-use Rattle.farm_core.specs.declared.farm.Slot.{Slot}
-use Rattle.farm_core.specs.declared.farm.Farm.{Farm}
-use Rattle.farm_core.specs.Machine.{Transaction, State, home, node_at, adding_to_all, HoldsLockAt, Steps, IsActor, InRange, Runs, fresh}
-use Rattle.farm_core.specs.Standing.{Reached, plains, NodesStand, StandsOpen, in_list, Aside, Stepped, IsOf}
-use Rattle.farm_core.specs.Farms.{OpenStands, SlotStands, SlotAt, Stands, StepsTo}
 use Rattle.farm_core.proofs.Good.{Good}
 use Rattle.farm_core.proofs.Events.{less_home}
 use Rattle.farm_core.proofs.Changes.{Takes, held_after, node_added}

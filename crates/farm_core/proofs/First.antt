@@ -1,20 +1,11 @@
 -- The states before the first begin and the first collect: each list is its first entry.
 use Rattle.std.proofs.Common.{◌≡◌, ℕ, ◌+◌, ◌*◌, ◌/◌, ◌%◌, ◌<◌, ◌≤◌, cond, Bool, true, false, List, [], ◌∷◌, Some, None, sym, refl, ap, ◌∙◌, subst, ⊎_elim, arith}
 use Rattle.std.proofs.Math.Nat.{div-lt_iff_lt-mul}
-use Rattle.a1_base.specs.declared.limits.TheConstants.{NODE_LIMIT}
-use Rattle.a1_base.specs.declared.place.Addr.{Addr}
-use Rattle.a1_base.specs.declared.place.TxnId.{TxnId}
-use Rattle.object_region.specs.Occupancy.{region_count, same_addr, IsPlace}
-use Rattle.farm_node.specs.declared.entry.Start.{Start}
-use Rattle.farm_node.specs.declared.entry.Entry.{Entry}
+use Rattle.farm_core.proofs.Words.{NODE_LIMIT, Addr, TxnId, region_count, same_addr, IsPlace, Start, Entry, Bytes, loaded_cell, occupancy, loaded_cells, begun}
+use Rattle.farm_core.proofs.Words.{Loads, Lawful, replay, IsStart, IsStamp, Installed, Story, nobody, loaded_puts, story_begun, IsAmong, Transaction, unbegun}
+use Rattle.farm_core.proofs.Words.{State, fresh, start_of, home, node_of, set_log, log_loaded, IsAddr}
 use Rattle.farm_node.specs.declared.entry.Entry.TheVariants as entry
-use Rattle.farm_node.specs.Cell.{Bytes, loaded_cell}
-use Rattle.farm_node.specs.NodeState.{occupancy, loaded_cells, begun, Loads, Lawful, replay, IsStart}
-use Rattle.a1_base.specs.Stamps.{IsStamp}
-use Rattle.farm_node.specs.Story.{Installed, Story, nobody, loaded_puts, story_begun}
-use Rattle.a1_base.specs.Lists.{IsAmong}
 use Rattle.farm_node.proofs.Stories.{Ends, ends}
-use Rattle.farm_core.specs.Machine.{Transaction, unbegun, State, fresh, start_of, home, node_of, set_log, log_loaded, IsAddr}
 use Rattle.farm_core.proofs.Low.{BoundLow}
 use Rattle.farm_core.proofs.Held.{HoldingCell}
 use Rattle.farm_core.proofs.Good.{Listed, Sane, HeldAt, IsFirst, Base, Good, home_low, grown}

@@ -1,19 +1,12 @@
 -- What every state of a run keeps, and the changes that keep it.
 use Rattle.std.proofs.Common.{◌≡◌, ◌≢◌, ◌⊎◌, ℕ, ◌+◌, ◌<◌, ◌≤◌, nat_lt, eqb, cond, Bool, true, false, List, [], ◌∷◌, ◌++◌, Option, Some, None, Ok, Err, sym, refl, ap, ◌∙◌, subst, arith, append_assoc}
 use Rattle.std.proofs.lemmas.Bool.{eqb-true}
-use Rattle.a1_base.specs.declared.limits.TheConstants.{ACTOR_LIMIT, NODE_LIMIT}
-use Rattle.a1_base.specs.declared.place.Addr.{Addr}
-use Rattle.a1_base.specs.declared.place.TxnId.{TxnId}
-use Rattle.farm_node.specs.declared.entry.Start.{Start}
-use Rattle.farm_node.specs.declared.entry.Entry.{Entry}
+use Rattle.farm_core.proofs.Words.{ACTOR_LIMIT, NODE_LIMIT, Addr, TxnId, Start, Entry, same_txn, NodeState, Fits, after, Lawful, replay, IsStamp, Story, story}
+use Rattle.farm_core.proofs.Words.{Unbegun, Reading, Drawn, Installing, Transaction, unbegun, State, home, node_at, set_log, adding, adding_to_all}
+use Rattle.farm_core.proofs.Words.{set_transaction, moving, counting_begin, loading_over, AllSame}
 use Rattle.farm_node.specs.declared.entry.Entry.TheVariants as entry
-use Rattle.farm_node.specs.Cell.{same_txn}
-use Rattle.farm_node.specs.NodeState.{NodeState, Fits, after, Lawful, replay}
-use Rattle.a1_base.specs.Stamps.{IsStamp}
-use Rattle.farm_node.specs.Story.{Story, story}
 use Rattle.farm_node.proofs.Sound.{txn_eq, sound_end}
 use Rattle.farm_node.proofs.Steps.{keeps}
-use Rattle.farm_core.specs.Machine.{Unbegun, Reading, Drawn, Installing, Transaction, unbegun, State, home, node_at, set_log, adding, adding_to_all, set_transaction, moving, counting_begin, loading_over, AllSame}
 use Rattle.farm_core.proofs.Lists.{lawful_more, replay_more, story_more}
 use Rattle.farm_core.proofs.Low.{Low, LowEntry, low_after, low_more}
 use Rattle.farm_core.proofs.Held.{Held, Allows, held}

@@ -1,16 +1,9 @@
 -- Lists only grow once a transaction has begun, and its read stamp stays.
 use Rattle.std.proofs.Common.{◌≡◌, ◌≢◌, ℕ, ◌+◌, ◌≤◌, nat_lt, cond, true, false, List, [], ◌∷◌, ◌++◌, Option, Result, Ok, Err, sym, refl, ap, ◌∙◌, subst, ⊎_elim, arith, append_assoc, append-nil}
-use Rattle.a1_base.specs.declared.place.Addr.{Addr}
-use Rattle.a1_base.specs.declared.place.TxnId.{TxnId}
-use Rattle.farm_node.specs.declared.entry.Found.{Found}
-use Rattle.farm_node.specs.declared.entry.Locked.{Locked}
-use Rattle.farm_node.specs.declared.entry.CheckFault.{CheckFault}
-use Rattle.farm_node.specs.declared.entry.Entry.{Entry}
-use Rattle.farm_node.specs.Cell.{Bytes, read_answer, lock_answer, check_answer}
-use Rattle.farm_core.specs.declared.event.Event.{Event}
+use Rattle.farm_core.proofs.Words.{Addr, TxnId, Found, Locked, CheckFault, Entry, Bytes, read_answer, lock_answer, check_answer, Event, Answer, Unbegun}
+use Rattle.farm_core.proofs.Words.{Installing, Refused, Transaction, begun_at, in_stage, with_read, with_locked, with_same, drawn_at, ended, State, home}
+use Rattle.farm_core.proofs.Words.{node_of, adding, adding_to_all, moving, Reads, Locks, Checks, Meets, Acts, Steps}
 use Rattle.farm_core.specs.declared.event.Event.TheVariants as event
-use Rattle.farm_core.specs.declared.event.Answer.{Answer}
-use Rattle.farm_core.specs.Machine.{Unbegun, Installing, Refused, Transaction, begun_at, in_stage, with_read, with_locked, with_same, drawn_at, ended, State, home, node_of, adding, adding_to_all, moving, Reads, Locks, Checks, Meets, Acts, Steps}
 use Rattle.farm_core.proofs.Good.{Good, grown, moved}
 
 -- a list that begins with another

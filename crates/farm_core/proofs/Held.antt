@@ -1,22 +1,14 @@
 -- What one transaction's phase says of one address: of its lock there, and of its puts.
 use Rattle.std.proofs.Common.{◌≡◌, ◌≢◌, ◌⊎◌, ℕ, ◌<◌, ◌≤◌, max, cond, Bool, true, false, List, ◌∷◌, Option, Some, None, Ok, ◌||◌, sym, refl, ap, ◌∙◌, subst, inl, inr, ⊎_elim, arith}
-use Rattle.a1_base.specs.declared.place.Addr.{Addr}
-use Rattle.a1_base.specs.declared.place.TxnId.{TxnId}
-use Rattle.object_region.specs.Occupancy.{same_addr}
-use Rattle.version_chain.specs.Versions.{newest}
-use Rattle.farm_node.specs.declared.hold.Hold.{Hold}
-use Rattle.farm_node.specs.declared.entry.Entry.{Entry}
+use Rattle.farm_core.proofs.Words.{Addr, TxnId, same_addr, newest, Hold, Entry, Cell, same_txn, is_gone, NodeState, HeldBy, Given, gives, Installed, Story}
+use Rattle.farm_core.proofs.Words.{IsAmong, Stage, Refused, Transaction, unbegun, begun_at, drawn_at, with_locked, ended}
 use Rattle.farm_node.specs.declared.entry.Entry.TheVariants as entry
-use Rattle.farm_node.specs.Cell.{Cell, same_txn, is_open as is_free, is_gone}
-use Rattle.farm_node.specs.NodeState.{NodeState, HeldBy}
-use Rattle.farm_node.specs.Story.{Given, gives, Installed, Story}
-use Rattle.a1_base.specs.Lists.{IsAmong}
+use Rattle.farm_node.specs.Cell.{is_open as is_free}
 use Rattle.farm_node.proofs.Addresses.{and_left, addr_eq}
 use Rattle.farm_node.proofs.Sound.{txn_self}
 use Rattle.farm_node.proofs.Steps.{Keeps}
 use Rattle.farm_node.proofs.Chains.{newest_cut}
 use Rattle.farm_node.proofs.Stories.{Below}
-use Rattle.farm_core.specs.Machine.{Stage, Refused, Transaction, unbegun, begun_at, drawn_at, with_locked, ended}
 use Rattle.farm_core.proofs.Low.{BoundLow}
 
 -- the transaction has the lock

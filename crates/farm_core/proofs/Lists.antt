@@ -1,10 +1,8 @@
 -- One entry more behind a lawful list.
 use Rattle.std.proofs.Common.{◌≡◌, List, [], ◌∷◌, ◌++◌, refl}
-use Rattle.a1_base.specs.declared.place.Addr.{Addr}
-use Rattle.farm_node.specs.declared.entry.Entry.{Entry}
+use Rattle.farm_core.proofs.Words.{Addr, Entry, NodeState, Fits, after, begun, replay_from, LawfulFrom, replay, Lawful, Story, story_after, story_from}
+use Rattle.farm_core.proofs.Words.{story_begun, story}
 use Rattle.farm_node.specs.declared.entry.Entry.TheVariants as entry
-use Rattle.farm_node.specs.NodeState.{NodeState, Fits, after, begun, replay_from, LawfulFrom, replay, Lawful}
-use Rattle.farm_node.specs.Story.{Story, story_after, story_from, story_begun, story}
 
 lawful_from_more : (p : NodeState) (es : List Entry) (e : Entry) → LawfulFrom p es → Fits (replay_from p es) e → LawfulFrom p (es ++ e ∷ [])
 lawful_from_more p [] e lawful fits = (fits, tt)

@@ -3,23 +3,11 @@ use Rattle.std.proofs.Common.{◌≡◌, ℕ, ◌+◌, ◌*◌, ◌/◌, ◌%◌
 use Rattle.std.proofs.Math.ListN.{set, length-set}
 use Rattle.std.proofs.lemmas.Bool.{both_ways, eqb-true, eqb-false}
 use Rattle.std.proofs.lemmas.Nat.{div-add-mod', div_below}
-use Rattle.a1_base.specs.declared.limits.TheConstants.{ACTOR_LIMIT}
-use Rattle.a1_base.specs.declared.place.Addr.{Addr}
-use Rattle.a1_base.specs.declared.place.TxnId.{TxnId}
-use Rattle.object_region.specs.Occupancy.{region_count, IsPlace}
-use Rattle.farm_node.specs.declared.node.Node.{Node}
-use Rattle.farm_node.specs.declared.entry.Entry.{Entry}
-use Rattle.farm_node.specs.Cell.{Bytes, Cell, loaded_cell}
-use Rattle.farm_node.specs.NodeState.{NodeState, HeldBy, occupancy, Lawful, replay}
-use Rattle.farm_node.specs.State.{with_cell}
-use Rattle.farm_node.specs.Node.{plain_of}
+use Rattle.farm_core.proofs.Words.{ACTOR_LIMIT, Addr, TxnId, region_count, IsPlace, Node, Entry, Bytes, Cell, loaded_cell, NodeState, HeldBy, occupancy, Lawful}
+use Rattle.farm_core.proofs.Words.{replay, with_cell, plain_of, Slot, Farm, State, home, node_at, node_of, set_log, log_loaded, HoldsLockAt, Meets, IsAddr}
+use Rattle.farm_core.proofs.Words.{IsObject, plains, NodesStand, SlotStands, Stands, StepsTo}
 use Rattle.farm_core.specs.declared.event.Event.TheVariants as event
 use Rattle.farm_core.specs.declared.event.Answer.TheVariants as answer
-use Rattle.farm_core.specs.declared.farm.Slot.{Slot}
-use Rattle.farm_core.specs.declared.farm.Farm.{Farm}
-use Rattle.farm_core.specs.Machine.{State, home, node_at, node_of, set_log, log_loaded, HoldsLockAt, Meets, IsAddr, IsObject}
-use Rattle.farm_core.specs.Standing.{plains, NodesStand}
-use Rattle.farm_core.specs.Farms.{SlotStands, Stands, StepsTo}
 use Rattle.farm_core.proofs.Held.{Holds, holds_held}
 use Rattle.farm_core.proofs.Good.{Listed, Good, IsFirst, grown}
 use Rattle.farm_core.proofs.Events.{less_home}

@@ -1,13 +1,8 @@
 -- Every stamp of a node's state is at most the clock.
 use Rattle.std.proofs.Common.{◌≡◌, ℕ, zero, suc, ◌≤◌, max, cond, true, false, List, [], ◌∷◌, Option, Some, None, Ok, Err, arith}
-use Rattle.a1_base.specs.declared.place.Addr.{Addr}
-use Rattle.object_region.specs.Occupancy.{same_addr}
-use Rattle.version_chain.specs.Versions.{cut}
-use Rattle.farm_node.specs.declared.entry.Entry.{Entry}
+use Rattle.farm_core.proofs.Words.{Addr, same_addr, cut, Entry, Cell, raised_to, past_raised, locked_by, installed, released, past_released, goes, collected}
+use Rattle.farm_core.proofs.Words.{past_collected, NodeState, set_cell, places, least_pin, new_floor, past_over, Fits, looked_at, after, lesser, TxnId}
 use Rattle.farm_node.specs.declared.entry.Entry.TheVariants as entry
-use Rattle.farm_node.specs.Cell.{Cell, raised_to, past_raised, locked_by, installed, released, past_released, goes, collected, past_collected}
-use Rattle.farm_node.specs.NodeState.{NodeState, set_cell, places, least_pin, new_floor, past_over, Fits, looked_at, after, lesser}
-use Rattle.a1_base.specs.declared.place.TxnId.{TxnId}
 
 abbrev pub BoundLow : ℕ → Option Cell → Type 0
 BoundLow clock None = Unit {0}

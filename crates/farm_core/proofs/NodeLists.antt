@@ -1,10 +1,7 @@
 -- The plain states of some nodes, read and written.
 use Rattle.std.proofs.Common.{◌≡◌, ◌≢◌, ℕ, zero, suc, ◌%◌, ◌<◌, List, [], ◌∷◌, length, get_or, refl, ap, ◌∙◌, arith}
 use Rattle.std.proofs.Math.ListN.{set}
-use Rattle.a1_base.specs.declared.place.Addr.{Addr}
-use Rattle.farm_node.specs.declared.node.Node.{Node}
-use Rattle.farm_node.specs.Node.{plain_of}
-use Rattle.farm_core.specs.Standing.{plains, plain_at}
+use Rattle.farm_core.proofs.Words.{Addr, Node, plain_of, plains, plain_at}
 
 pub plains_index : (nodes : List Node) (n : ℕ) (d : Node) → n < length nodes → plain_of (get_or nodes n d) ≡ plains nodes n
 plains_index [] n d low = absurd (omega arith)

@@ -1,15 +1,10 @@
 -- A begin and a shut keep a state good.
 use Rattle.std.proofs.Common.{◌≡◌, ◌≢◌, ℕ, ◌+◌, ◌<◌, ◌≤◌, eqb, cond, Bool, true, false, Some, None, sym, refl, ap, ◌∙◌, subst, arith}
 use Rattle.std.proofs.lemmas.Bool.{eq-eqb, eqb-true, eqb-false, ne_eqb}
-use Rattle.a1_base.specs.declared.limits.TheConstants.{ACTOR_LIMIT}
-use Rattle.a1_base.specs.declared.place.Addr.{Addr}
-use Rattle.a1_base.specs.declared.place.TxnId.{TxnId}
-use Rattle.farm_node.specs.declared.entry.Entry.{Entry}
+use Rattle.farm_core.proofs.Words.{ACTOR_LIMIT, Addr, TxnId, Entry, same_txn, NodeState, Fits, Transaction, unbegun, begun_at, ended, State, home, node_at}
+use Rattle.farm_core.proofs.Words.{adding_to_all, set_transaction, moving, counting_begin, loading_over, HoldsLock}
 use Rattle.farm_node.specs.declared.entry.Entry.TheVariants as entry
-use Rattle.farm_node.specs.Cell.{same_txn}
-use Rattle.farm_node.specs.NodeState.{NodeState, Fits}
 use Rattle.farm_node.proofs.Sound.{txn_eq, txn_self}
-use Rattle.farm_core.specs.Machine.{Transaction, unbegun, begun_at, ended, State, home, node_at, adding_to_all, set_transaction, moving, counting_begin, loading_over, HoldsLock}
 use Rattle.farm_core.proofs.Held.{Holds, holds_held, held_begun, held_ended}
 use Rattle.farm_core.proofs.Good.{Sane, Base, NoneOpen, Pinned, Good, base_adding_to_all, base_moving, base_counting, base_loading_over, moved}
 use Rattle.farm_core.proofs.Phases.{sane_ended, sane_begun, is_unbegun, started, open_stage}

@@ -1,10 +1,7 @@
 -- The ways of a transaction: each next phase is sane, and keeps a state good.
 use Rattle.std.proofs.Common.{◌≡◌, ◌≢◌, ◌⊎◌, ℕ, ◌+◌, ◌<◌, ◌≤◌, Bool, true, false, refl, ap, subst, ⊎_elim, arith}
-use Rattle.a1_base.specs.declared.limits.TheConstants.{ACTOR_LIMIT}
-use Rattle.a1_base.specs.declared.place.Addr.{Addr}
-use Rattle.a1_base.specs.declared.place.TxnId.{TxnId}
-use Rattle.a1_base.specs.Stamps.{IsStamp}
-use Rattle.farm_core.specs.Machine.{Stage, Unbegun, Reading, Drawn, Installing, Refused, Transaction, begun_at, in_stage, drawn_at, with_addr, with_locked, ended, State, home, node_at, moving, AllSame}
+use Rattle.farm_core.proofs.Words.{ACTOR_LIMIT, Addr, TxnId, IsStamp, Stage, Unbegun, Reading, Drawn, Installing, Refused, Transaction, begun_at, in_stage}
+use Rattle.farm_core.proofs.Words.{drawn_at, with_addr, with_locked, ended, State, home, node_at, moving, AllSame}
 use Rattle.farm_core.proofs.Held.{Holds, held_staged, held_locked, held_drawn}
 use Rattle.farm_core.proofs.Good.{Sane, SameIn, Good, home_low, base_ticking, good_moving}
 

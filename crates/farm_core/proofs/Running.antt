@@ -2,19 +2,9 @@
 use Rattle.std.proofs.Common.{◌≡◌, ℕ, zero, suc, ◌+◌, ◌<◌, ◌≤◌, eqb, Bool, true, false, List, [], ◌∷◌, ◌++◌, length, take, get_or, Option, None, Result, Ok, Err, sym, refl, ap, ◌∙◌, subst, length-append, OnErr, arith}
 use Rattle.std.proofs.lemmas.List.{take_more, take_all}
 use Rattle.std.proofs.lemmas.Bool.{eqb-true, eqb-false}
-use Rattle.a1_base.specs.declared.limits.TheConstants.{NODE_LIMIT}
-use Rattle.farm_node.specs.declared.node.Node.{Node}
+use Rattle.farm_core.proofs.Words.{NODE_LIMIT, Node, replay, plain_of, StandsFor, Event, Answer, Active, Slot, Farm, State, InRange, Runs, start_of, fresh}
+use Rattle.farm_core.proofs.Words.{plains, NodesStand, OpenStands, Stands, StepsTo, RunsTo, AreNew}
 use Rattle.farm_node.specs.declared.entry.Entry.TheVariants as entry
-use Rattle.farm_node.specs.NodeState.{replay}
-use Rattle.farm_node.specs.Node.{plain_of, StandsFor}
-use Rattle.farm_core.specs.declared.event.Event.{Event}
-use Rattle.farm_core.specs.declared.event.Answer.{Answer}
-use Rattle.farm_core.specs.declared.active.Active.{Active}
-use Rattle.farm_core.specs.declared.farm.Slot.{Slot}
-use Rattle.farm_core.specs.declared.farm.Farm.{Farm}
-use Rattle.farm_core.specs.Machine.{State, InRange, Runs, start_of, fresh}
-use Rattle.farm_core.specs.Standing.{plains, NodesStand}
-use Rattle.farm_core.specs.Farms.{OpenStands, Stands, StepsTo, RunsTo, AreNew}
 use Rattle.farm_core.proofs.Farming.{runs_more}
 
 -- one more answer

@@ -1,11 +1,7 @@
 -- Every run leaves a good state.
 use Rattle.std.proofs.Common.{ℕ, ◌<◌, ◌≤◌, List, [], ◌∷◌, sym, refl, subst, ⊎_elim}
-use Rattle.a1_base.specs.declared.limits.TheConstants.{NODE_LIMIT}
-use Rattle.farm_node.specs.Cell.{read_answer, lock_answer, check_answer}
-use Rattle.farm_core.specs.declared.event.Event.{Event}
+use Rattle.farm_core.proofs.Words.{NODE_LIMIT, read_answer, lock_answer, check_answer, Event, Answer, State, node_of, Meets, Acts, Steps, InRange, Runs, fresh}
 use Rattle.farm_core.specs.declared.event.Event.TheVariants as event
-use Rattle.farm_core.specs.declared.event.Answer.{Answer}
-use Rattle.farm_core.specs.Machine.{State, node_of, Meets, Acts, Steps, InRange, Runs, fresh}
 use Rattle.farm_core.proofs.Good.{Good}
 use Rattle.farm_core.proofs.First.{good_fresh, good_load}
 use Rattle.farm_core.proofs.Events.{good_read, good_alloc, good_lock, good_draw, good_check, good_put, good_unlock, good_collect}

@@ -1,15 +1,9 @@
 -- The laws of a good state.
 use Rattle.std.proofs.Common.{◌≡◌, ℕ, ◌<◌, ◌≤◌, Bool, true, false, List, ◌∷◌, ◌++◌, Ok, sym, refl, ap, ◌∙◌, subst, inr, ⊎_elim, arith, append_assoc}
-use Rattle.a1_base.specs.declared.place.Addr.{Addr}
-use Rattle.a1_base.specs.declared.place.TxnId.{TxnId}
-use Rattle.farm_node.specs.declared.entry.Found.{Found}
-use Rattle.farm_node.specs.declared.entry.Entry.{Entry}
+use Rattle.farm_core.proofs.Words.{Addr, TxnId, Found, Entry, Lawful, Installed, story, value_at, stamped_bytes, Installing, State, home, node_of}
 use Rattle.farm_node.specs.declared.entry.Entry.TheVariants as entry
-use Rattle.farm_node.specs.NodeState.{Lawful}
-use Rattle.farm_node.specs.Story.{Installed, story, value_at, stamped_bytes}
 use Rattle.farm_node.proofs.ReadsStay.{reads, pins}
 use Rattle.farm_node.proofs.PutsStay.{puts}
-use Rattle.farm_core.specs.Machine.{Installing, State, home, node_of}
 use Rattle.farm_core.specs.Serial.{log_of, ValueStands, HasInstalled, HasTouched, SerialOrder, SnapshotsKept}
 use Rattle.farm_core.proofs.Held.{IsPut, HasPut, holds_held}
 use Rattle.farm_core.proofs.Good.{SameIn, Good, home_low}

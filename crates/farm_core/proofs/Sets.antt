@@ -3,11 +3,8 @@ use Rattle.std.proofs.Common.{◌≡◌, ◌↔◌, Bool, true, false, cond, not
 use Rattle.std.proofs.lemmas.Bool.{eqb-true, eq-eqb, ne_eqb, false≢true}
 use Rattle.std.specs.BTreeSet.{BTreeSet, btree_set_len}
 use Rattle.std.specs.List.{list_any}
-use Rattle.a1_base.specs.declared.place.Addr.{Addr}
-use Rattle.object_region.specs.Occupancy.{same_addr}
+use Rattle.farm_core.proofs.Words.{Addr, same_addr, with_addr, ReadSet, marks, without_addr, reading, unread}
 use Rattle.farm_node.proofs.Addresses.{addr_eq, same_self}
-use Rattle.farm_core.specs.Machine.{with_addr}
-use Rattle.farm_core.specs.ReadSet.{ReadSet, marks, without_addr, reading, unread}
 
 taken_back_at : (a b : Addr) (m : Addr → Bool) → m a ≡ false → without_addr a (with_addr a m) b ≡ m b
 taken_back_at a b m none = by (same_addr a b) refl where

@@ -1,18 +1,9 @@
 -- The slot of an actor, and the events of its transactions.
 use Rattle.std.proofs.Common.{◌≡◌, ◌≢◌, ℕ, true, false, List, Option, Some, None, Result, Ok, Err, sym, refl, ap, ◌∙◌, subst, inr, ⊎_elim}
-use Rattle.a1_base.specs.declared.Memory.{Memory}
-use Rattle.a1_base.specs.declared.place.Addr.{Addr}
-use Rattle.a1_base.specs.declared.place.TxnId.{TxnId}
-use Rattle.farm_node.specs.declared.node.Node.{Node}
-use Rattle.farm_core.specs.declared.event.Event.{Event}
+use Rattle.farm_core.proofs.Words.{Memory, Addr, TxnId, Node, Event, Answer, Active, Slot, State, HoldsLockAt, Meets, Reached, StandsOpen, in_list, At, AtClock}
+use Rattle.farm_core.proofs.Words.{Aside, Stepped, IsOf, OpenStands, SlotAt}
 use Rattle.farm_core.specs.declared.event.Event.TheVariants as event
-use Rattle.farm_core.specs.declared.event.Answer.{Answer}
 use Rattle.farm_core.specs.declared.event.Answer.TheVariants as answer
-use Rattle.farm_core.specs.declared.active.Active.{Active}
-use Rattle.farm_core.specs.declared.farm.Slot.{Slot}
-use Rattle.farm_core.specs.Machine.{State, HoldsLockAt, Meets}
-use Rattle.farm_core.specs.Standing.{Reached, StandsOpen, in_list, At, AtClock, Aside, Stepped, IsOf}
-use Rattle.farm_core.specs.Farms.{OpenStands, SlotAt}
 use Rattle.farm_core.proofs.Good.{Good}
 use Rattle.farm_core.proofs.Changes.{good}
 

@@ -87,7 +87,8 @@ impl Active {
                     && self.reads.all_checked()
                     && holds(nodes, transaction, *at)
             }
-            Event::Unlock { at, .. } => !self.phase.is_installing() && holds(nodes, transaction, *at),
+            Event::Unlock { at, .. } => !self.phase.is_installing()
+                && holds(nodes, transaction, *at),
             _ => false,
         }
     }

@@ -142,13 +142,24 @@ impl Farm {
     }
 
     // Answers an event of an open transaction, but its end.
-    fn advance(&mut self, alloc: Global, transaction: TxnId, event: &Event) -> Result<Answer, Memory>
+    fn advance(
+        &mut self,
+        alloc: Global,
+        transaction: TxnId,
+        event: &Event,
+    ) -> Result<Answer, Memory>
         requires known { (s : State) × Stands self.old s × IsOf transaction event.now }
         requires range { InRange (length self.old.nodes.items) event.now }
         ensures steps { (s : State) → Stands self.old s → StepsTo s event.now result (Stands self.new) }
         ensures nodes { length self.new.nodes.items ≡ length self.old.nodes.items }
     {
-        self.slots[transaction.actor as usize].advance(&mut self.nodes, &mut self.clock, alloc, transaction, event)
+        self.slots[transaction.actor as usize].advance(
+            &mut self.nodes,
+            &mut self.clock,
+            alloc,
+            transaction,
+            event,
+        )
     }
 
     // A transaction takes its snapshot.

@@ -1,5 +1,5 @@
 use Rattle.std.proofs.Common.{◌≡◌, ◌∙◌, ◌<◌, length, sym, ap, arith}
-use Rattle.a1_base.specs.declared.place.Addr.{Addr}
+use Rattle.farm_core.proofs.Words.{Addr}
 use Rattle.farm_core.proofs.Ending.{last_popped, fewer_left, held_left}
 use Rattle.farm_core.proofs.active.any_held.Goals as goal
 

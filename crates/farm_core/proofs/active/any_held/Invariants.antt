@@ -1,6 +1,5 @@
 use Rattle.std.proofs.Common.{◌≡◌, true, vec_len}
-use Rattle.a1_base.specs.declared.place.Addr.{Addr}
-use Rattle.farm_core.specs.Standing.{in_list, holds_at}
+use Rattle.farm_core.proofs.Words.{Addr, in_list, holds_at}
 use Rattle.farm_core.proofs.active.any_held.Given as goal
 
 abbrev pub invariant-loop-at : goal.invariant-loop-at

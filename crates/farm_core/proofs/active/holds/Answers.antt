@@ -1,6 +1,5 @@
 use Rattle.std.proofs.Common.{◌∙◌, ap}
-use Rattle.farm_node.specs.NodeState.{NodeState}
-use Rattle.farm_node.specs.State.{holds_there}
+use Rattle.farm_core.proofs.Words.{NodeState, holds_there}
 use Rattle.farm_core.proofs.NodeLists.{fetched}
 use Rattle.farm_core.proofs.active.holds.Goals as goal
 

@@ -1,6 +1,5 @@
 use Rattle.std.proofs.Common.{◌∙◌, ap}
-use Rattle.farm_node.specs.NodeState.{NodeState}
-use Rattle.farm_node.specs.State.{may_lock}
+use Rattle.farm_core.proofs.Words.{NodeState, may_lock}
 use Rattle.farm_core.proofs.NodeLists.{fetched}
 use Rattle.farm_core.proofs.active.may_lock.Goals as goal
 

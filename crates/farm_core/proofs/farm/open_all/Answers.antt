@@ -1,7 +1,6 @@
 use Rattle.std.proofs.Common.{◌<◌, ◌≤◌, ℕ, get_or, length, max, sym, ap, ◌∙◌, subst, arith}
+use Rattle.farm_core.proofs.Words.{NodeState, Adds, plain_of}
 use Rattle.farm_node.specs.declared.entry.Entry.TheVariants as entry
-use Rattle.farm_node.specs.NodeState.{NodeState, Adds}
-use Rattle.farm_node.specs.Node.{plain_of}
 use Rattle.farm_core.proofs.EachNode.{next_is, rest_more, done_more}
 use Rattle.farm_core.proofs.farm.open_all.Goals as goal
 

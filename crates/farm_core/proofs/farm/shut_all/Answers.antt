@@ -1,6 +1,6 @@
 use Rattle.std.proofs.Common.{◌<◌, length, ap, ◌∙◌, arith}
+use Rattle.farm_core.proofs.Words.{NodeState}
 use Rattle.farm_node.specs.declared.entry.Entry.TheVariants as entry
-use Rattle.farm_node.specs.NodeState.{NodeState}
 use Rattle.farm_core.proofs.EachNode.{next_is, rest_more, done_more}
 use Rattle.farm_core.proofs.farm.shut_all.Goals as goal
 

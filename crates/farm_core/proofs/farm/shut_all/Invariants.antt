@@ -1,7 +1,6 @@
 use Rattle.std.proofs.Common.{◌≡◌, ◌<◌, ◌≤◌, ℕ}
+use Rattle.farm_core.proofs.Words.{Adds, plains}
 use Rattle.farm_node.specs.declared.entry.Entry.TheVariants as entry
-use Rattle.farm_node.specs.NodeState.{Adds}
-use Rattle.farm_core.specs.Standing.{plains}
 use Rattle.farm_core.proofs.farm.shut_all.Given as goal
 
 abbrev pub invariant-loop-node : goal.invariant-loop-node

@@ -1,5 +1,5 @@
 use Rattle.std.proofs.Common.{ap, ◌∙◌, refl, ◌++◌, ◌∷◌, [], List, ◌≡◌, length, Err, arith}
-use Rattle.a1_base.specs.declared.place.Addr.{Addr}
+use Rattle.farm_core.proofs.Words.{Addr}
 use Rattle.farm_core.proofs.Acting.{pinned_at, read_low, alloc_placed, alloc_spent, alloc_failed}
 use Rattle.farm_core.proofs.active.Active.alloc.Goals as goal
 

@@ -1,5 +1,5 @@
 use Rattle.std.proofs.Common.{refl}
-use Rattle.farm_core.specs.declared.active.Active.{Active}
+use Rattle.farm_core.proofs.Words.{Active}
 use Rattle.farm_core.proofs.Ending.{asked_still, asked_is}
 use Rattle.farm_core.proofs.active.Active.holds_lock.Goals as goal
 

@@ -1,5 +1,5 @@
 use Rattle.std.proofs.Common.{sym, ap, ◌∙◌, refl, ◌++◌, ◌∷◌, [], List}
-use Rattle.a1_base.specs.declared.place.Addr.{Addr}
+use Rattle.farm_core.proofs.Words.{Addr}
 use Rattle.farm_core.proofs.Acting.{pinned_here, read_low, may_lock_here, lock_given, lock_refused, lock_failed}
 use Rattle.farm_core.proofs.active.Active.lock.Goals as goal
 

@@ -1,5 +1,5 @@
 use Rattle.std.proofs.Common.{sym}
-use Rattle.farm_core.specs.ReadSets.{read_set}
+use Rattle.farm_core.proofs.Words.{read_set}
 use Rattle.farm_core.proofs.Sets.{undone_if}
 use Rattle.farm_core.proofs.Acting.{pinned_here, read_low, read_even, read_found, read_held, read_failed}
 use Rattle.farm_core.proofs.active.Active.read.Goals as goal

@@ -1,6 +1,6 @@
 use Rattle.std.proofs.Common.{◌≡◌, ℕ, length, refl, subst, arith}
 use Rattle.std.proofs.lemmas.List.{with_items_is}
-use Rattle.farm_core.specs.Machine.{InRange}
+use Rattle.farm_core.proofs.Words.{InRange}
 use Rattle.farm_core.proofs.Farming.{actor_of, slot_at, farm_stepped}
 use Rattle.farm_core.proofs.farm.Farm.advance.Goals as goal
 

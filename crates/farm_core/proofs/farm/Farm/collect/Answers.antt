@@ -1,5 +1,5 @@
 use Rattle.std.proofs.Common.{◌<◌, refl, arith}
-use Rattle.a1_base.specs.declared.limits.TheConstants.{COLLECTOR_ACTOR}
+use Rattle.farm_core.proofs.Words.{COLLECTOR_ACTOR}
 use Rattle.farm_core.proofs.Collecting.{stamp_low, collect_stands}
 use Rattle.farm_core.proofs.farm.Farm.collect.Goals as goal
 

@@ -1,7 +1,5 @@
 use Rattle.std.proofs.Common.{◌∙◌, ◌<◌, ◌≤◌, ◌+◌, ◌∷◌, [], ℕ, List, length, take, subst, sym, ap, length-append, arith}
-use Rattle.farm_core.specs.declared.event.Answer.{Answer}
-use Rattle.farm_core.specs.Machine.{InRange}
-use Rattle.farm_core.specs.Farms.{Stands, RunsTo}
+use Rattle.farm_core.proofs.Words.{Answer, InRange, Stands, RunsTo}
 use Rattle.farm_core.proofs.Running.{ran_more, ran_still, all_ran}
 use Rattle.farm_core.proofs.farm.Farm.run.Goals as goal
 

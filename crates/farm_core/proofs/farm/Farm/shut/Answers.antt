@@ -1,6 +1,6 @@
 use Rattle.std.proofs.Common.{◌≡◌, Bool, length, refl, subst, arith}
 use Rattle.std.proofs.lemmas.List.{with_items_is}
-use Rattle.farm_core.specs.Farms.{Shuts}
+use Rattle.farm_core.proofs.Words.{Shuts}
 use Rattle.farm_core.proofs.Farming.{slot_at}
 use Rattle.farm_core.proofs.Ending.{shut_no, shut_pins, shut_stands}
 use Rattle.farm_core.proofs.farm.Farm.shut.Goals as goal

@@ -1,7 +1,5 @@
 use Rattle.std.proofs.Common.{◌≡◌, [], List, length, refl, sym, subst, ap, arith}
-use Rattle.farm_core.specs.declared.event.Event.{Event}
-use Rattle.farm_core.specs.Machine.{Runs}
-use Rattle.farm_core.specs.Farms.{Stands}
+use Rattle.farm_core.proofs.Words.{Event, Runs, Stands}
 use Rattle.farm_core.specs.Cores.{Shown, RanFront}
 use Rattle.farm_core.proofs.Running.{take_whole, on_err}
 use Rattle.farm_core.proofs.run.Core.run.Goals as goal
