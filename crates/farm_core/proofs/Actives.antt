@@ -1,6 +1,6 @@
 -- What an open transaction stands for after a change.
 use Rattle.std.proofs.Common.{◌≡◌, Bool, true, false, not, ◌&&◌, ◌||◌, List, [], ◌∷◌, ◌++◌, sym, refl, ap, ◌∙◌, ⊎_elim, inl, inr, ◌⊎◌, ℕ}
-use Rattle.std.proofs.lemmas.Bool.{or_cases}
+use Rattle.std.proofs.lemmas.Bool.{or_cases, or_right}
 use Rattle.farm_core.proofs.Words.{Addr, same_addr, Phase, Active, ReadMarks, Stage, Transaction, in_stage, drawn_at, with_read, with_locked, with_same}
 use Rattle.farm_core.proofs.Words.{with_addr, ReadSet, without_addr, reading, checked, read_set, stage_of, in_list, is_unchecked, StandsOpen}
 use Rattle.farm_node.proofs.Addresses.{addr_eq, same_self}
@@ -9,10 +9,6 @@ use Rattle.farm_core.specs.declared.active.Phase.TheVariants as phase
 or_more : (g f l : Bool) → (f ≡ true → l ≡ true) → (g || f) ≡ true → (g || l) ≡ true
 or_more true f l more there = refl
 or_more false f l more there = more there
-
-pub or_right : (g l : Bool) → l ≡ true → (g || l) ≡ true
-or_right true l is = refl
-or_right false l is = is
 
 or_split : (P : Type 0) (g f l : Bool) → (l ≡ true → (f ≡ true) ⊎ P) → (g || l) ≡ true → ((g || f) ≡ true) ⊎ P
 or_split P true f l split there = inl refl
@@ -31,40 +27,24 @@ front_or_last b a [] there = ⊎_elim (λ same. inr (addr_eq b a same)) (λ none
 front_or_last b a (x ∷ xs) there = or_split (b ≡ a) (same_addr b x) (in_list b xs) (in_list b (xs ++ a ∷ [])) (front_or_last b a xs) there
 
 module _ (x : Active) (y : Transaction) (o : StandsOpen x y) where
-  pub open_staged : (p : Phase) → StandsOpen (record x { phase = p }) (in_stage (stage_of p) y)
-  open_staged p = record {
-    is_open = o.is_open;
-    stage = refl;
-    read_stamp = o.read_stamp;
-    write_stamp = o.write_stamp;
-    reads = o.reads;
-    unchecked = o.unchecked;
-    locked = o.locked;
-  }
-
   -- the same but for the phase, and for how the addresses are kept
   pub open_like : (z : Active) (stage : Stage) → stage_of z.phase ≡ stage → (z.read_stamp ≡ x.read_stamp) × (z.write_stamp ≡ x.write_stamp) → read_set z.reads ≡ read_set x.reads
-      → z.locked.items ≡ x.locked.items → StandsOpen z (in_stage stage y)
-  open_like z stage is stamps reads locked = record {
+      → ((a : Addr) → in_list a z.locked.items ≡ true → in_list a x.locked.items ≡ true) → StandsOpen z (in_stage stage y)
+  open_like z stage is stamps reads fewer = record {
     is_open = o.is_open;
     stage = is;
     read_stamp = stamps.0 ∙ o.read_stamp;
     write_stamp = stamps.1 ∙ o.write_stamp;
     reads = ap (λ (r : ReadSet). r.read) reads ∙ o.reads;
     unchecked = ap (λ (r : ReadSet). r.unchecked) reads ∙ o.unchecked;
-    locked = λ a there. o.locked a (ap (in_list a) (sym locked) ∙ there);
+    locked = λ a there. o.locked a (fewer a there);
   }
 
+  pub open_staged : (p : Phase) → StandsOpen (record x { phase = p }) (in_stage (stage_of p) y)
+  open_staged p = open_like (record x { phase = p }) (stage_of p) refl (refl, refl) refl (λ a there. there)
+
   pub open_drawn : (w : ℕ) → StandsOpen (record x { phase = phase.Drawn; write_stamp = w }) (drawn_at w y)
-  open_drawn w = record {
-    is_open = o.is_open;
-    stage = refl;
-    read_stamp = o.read_stamp;
-    write_stamp = refl;
-    reads = o.reads;
-    unchecked = o.unchecked;
-    locked = o.locked;
-  }
+  open_drawn w = record { is_open = o.is_open; stage = refl; read_stamp = o.read_stamp; write_stamp = refl; reads = o.reads; unchecked = o.unchecked; locked = o.locked }
 
   module _ (a : Addr) where
     read_at : y.had_locked a ≡ false → y.is_same a ≡ false → (b : Addr) → with_addr a (is_unchecked y) b ≡ is_unchecked (with_read a y) b

@@ -9,9 +9,9 @@ use Rattle.farm_node.specs.declared.entry.Entry.TheVariants as entry
 use Rattle.farm_core.specs.declared.event.Event.TheVariants as event
 use Rattle.farm_core.specs.declared.event.Answer.TheVariants as answer
 use Rattle.farm_core.proofs.Held.{HasLock, HoldingCell}
-use Rattle.farm_core.proofs.Good.{Good, NoneOpen}
-use Rattle.farm_core.proofs.Changes.{good, self_moved, other_stays}
-use Rattle.farm_core.proofs.Farming.{reached_more, slot_kept, another, slots_after, each_added, held_each}
+use Rattle.farm_core.proofs.Good.{Good, NoneOpen, another, self_moved, other_stays}
+use Rattle.farm_core.proofs.Changes.{good}
+use Rattle.farm_core.proofs.Farming.{reached_more, slot_kept, slots_after, each_added, held_each}
 
 none_is : (o : Option Active) → not (is_some o) ≡ true → o ≡ None
 none_is None is = refl
@@ -75,7 +75,7 @@ module _ (farm : Farm) (s : State) (st : Stands farm s) (t : TxnId) (actor : IsA
         subst (λ (z : List Node × ℕ × ℕ). Adds (plains z.0 n) (entry.Open t.actor z.1 z.2) (plains later n)) (λ i. (same i, st.clock_is i, pin i)) (adds n (omega arith))
 
     held_none : (u : TxnId) (a : Addr) → HoldsLockAt begun u a → HoldsLockAt s u a
-    held_none u a held = held_each s g new_entry u a (λ takes. takes) held
+    held_none u a held = held_each s g new_entry (λ v b takes. takes) u a held
 
     -- it holds nothing yet
     none_held : (a : Addr) → HoldsLockAt s t a → ⊥

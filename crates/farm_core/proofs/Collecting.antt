@@ -55,4 +55,4 @@ module _ (farm : Farm) (s : State) (st : Stands farm s) where
     acts = subst (λ (w : Collected). Collects s n w (answer.Collected removed.floor removed.versions removed.objects) later) due (refl, refl)
 
     held : (u : TxnId) (a : Addr) → HoldsLockAt later u a → HoldsLockAt s u a
-    held u a has = ⊎_elim (λ before. before) (λ takes. absurd takes) (held_adding s g n e less u a has)
+    held u a has = ⊎_elim (λ before. before) (λ takes. absurd takes) (held_adding s g n e u a has)

@@ -1,16 +1,14 @@
 -- What is asked of an open transaction and its nodes is the event's condition.
-use Rattle.std.proofs.Common.{◌≡◌, ◌⊎◌, ◌↔◌, ℕ, ◌%◌, ◌<◌, Bool, true, false, not, ◌&&◌, ◌||◌, List, [], ◌∷◌, IsTrue, sym, refl, ap, ◌∙◌, subst, inl, inr, ⊎_elim, arith}
+use Rattle.std.proofs.Common.{◌≡◌, ◌⊎◌, ◌↔◌, ℕ, ◌%◌, Bool, true, false, not, ◌&&◌, ◌||◌, List, [], ◌∷◌, IsTrue, sym, refl, ap, ◌∙◌, subst, inl, inr, ⊎_elim}
 use Rattle.std.proofs.lemmas.Bool.{and_parts, and_from, not-true, or_cases, both_ways}
-use Rattle.farm_core.proofs.Words.{Addr, TxnId, Node, NodeState, holds_there, may_lock, story, Event, Phase, Active, Reading, Drawn, Installing, Refused}
+use Rattle.farm_core.proofs.Words.{Addr, TxnId, Node, NodeState, holds_there, may_lock, Event, Phase, Active, Reading, Drawn, Installing, Refused}
 use Rattle.farm_core.proofs.Words.{Transaction, State, home, node_of, IsAt, HoldsLockAt, HoldsLock, AllSame, Meets, read_set, all_checked, Reached, plains}
 use Rattle.farm_core.proofs.Words.{plain_at, stage_of, in_list, At, IsOf, is_reading, is_drawn, is_installing, holds_at, may_lock_at, is_none, meets_in}
 use Rattle.farm_node.proofs.Addresses.{same_self}
 use Rattle.farm_core.specs.declared.event.Event.TheVariants as event
 use Rattle.farm_core.specs.declared.active.Phase.TheVariants as phase
-use Rattle.farm_core.proofs.Held.{HasPut, holds_held}
 use Rattle.farm_core.proofs.Good.{Good}
-use Rattle.farm_core.proofs.Phases.{open_stage}
-use Rattle.farm_core.proofs.Events.{less_home}
+use Rattle.farm_core.proofs.Events.{less_home, locked_held}
 use Rattle.farm_node.proofs.Holders.{holds_iff, may_iff}
 use Rattle.farm_core.proofs.Changes.{good}
 use Rattle.farm_core.proofs.Sets.{none_left, left_none}
@@ -127,22 +125,9 @@ module _ (s : State) (r : Reached s) (t : TxnId) (x : Active) (nodes : List Node
 
   -- the locks of a reading transaction
 
-  locked_held : IsAt Reading s t → (a : Addr) → y.had_locked a ≡ true → HoldsLockAt s t a
-  locked_held going a locked =
-      let h = g.base.held t ((g.base.sane t).begun (open_stage s g t going.0)).0 a in
-      ⊎_elim
-      (λ holds. holds_held (node_of s a) t a holds)
-      (λ put. absurd (none_put put))
-      (h.locked locked (λ refused. let at_reading : y.stage ≡ Reading = going.1 in cc)) where
-        none_put : (HasPut t (story a (s.logs (home s a))).puts) → ⊥
-        none_put put =
-            let drawn : 0 < y.write_stamp = ((g.base.held t ((g.base.sane t).begun (open_stage s g t going.0)).0 a).puts put.0 put.1 put.2).drawn in
-            let undrawn : y.write_stamp ≡ 0 = ((g.base.sane t).undrawn going.1).0 in
-            omega arith
-
   some_to : IsAt Reading s t → (all : List Addr) → ((a : Addr) → in_list a all ≡ true → y.had_locked a ≡ true) → not (is_none all) ≡ true → HoldsLock s t
   some_to going [] locked is = absurd (cc)
-  some_to going (b ∷ more) locked is = (b, locked_held going b (locked b (ap (λ (k : Bool). k || in_list b more) (same_self b))))
+  some_to going (b ∷ more) locked is = (b, locked_held s g t b going (locked b (ap (λ (k : Bool). k || in_list b more) (same_self b))))
 
   some_from : (a : Addr) (all : List Addr) → in_list a all ≡ true → not (is_none all) ≡ true
   some_from a [] there = absurd (cc)

@@ -1,5 +1,5 @@
 -- A state and an event have one answer.
-use Rattle.std.proofs.Common.{◌≡◌, ◌⊎◌, inl, inr, ◌∙◌, ℕ, ◌+◌, ◌-◌, ◌*◌, ◌^◌, ◌<◌, List, [], ◌∷◌, Option, Result, Ok, Err, true, false, refl, sym, subst, arith, ⊎_elim}
+use Rattle.std.proofs.Common.{◌≡◌, ◌⊎◌, inl, inr, ◌∙◌, ℕ, ◌+◌, ◌*◌, ◌<◌, List, [], ◌∷◌, Option, Result, Ok, Err, true, false, refl, sym, subst, arith, ⊎_elim}
 use Rattle.std.specs.Prelude.{max}
 use Rattle.farm_core.proofs.Words.{LAST_STAMP, Addr, TxnId, Occupancy, LeastOfMade, FirstOfNext, LeastFree, IsSpent, IsAmong, Found, Locked, CheckFault, Bytes}
 use Rattle.farm_core.proofs.Words.{read_answer, lock_answer, check_answer, occupancy, Event, Answer, State, node_at, node_of, with_locked, adding, moving}

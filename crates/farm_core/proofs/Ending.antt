@@ -3,18 +3,18 @@ use Rattle.std.proofs.Common.{◌≡◌, ◌≢◌, ◌↔◌, ℕ, ◌-◌, ◌
 use Rattle.std.proofs.Math.ListN.{set, length-set}
 use Rattle.std.proofs.lemmas.Bool.{both_ways}
 use Rattle.farm_core.proofs.Words.{ACTOR_LIMIT, Addr, TxnId, Node, Entry, same_txn, NodeState, Adds, Active, Slot, Farm, ended, State, adding_to_all, moving}
-use Rattle.farm_core.proofs.Words.{HoldsLock, Meets, IsActor, ReadSet, read_set, Reached, plains, NodesStand, in_list, stage_of, At, AtClock, holds_at}
+use Rattle.farm_core.proofs.Words.{HoldsLock, Meets, IsActor, read_set, Reached, plains, NodesStand, in_list, stage_of, At, AtClock, holds_at}
 use Rattle.farm_core.proofs.Words.{OpenStands, SlotStands, SlotAt, Stands, StepsTo, AddsEach, Shuts}
 use Rattle.farm_node.specs.declared.entry.Entry.TheVariants as entry
 use Rattle.farm_node.proofs.Sound.{txn_self}
 use Rattle.farm_core.specs.declared.event.Event.TheVariants as event
 use Rattle.farm_core.specs.declared.event.Answer.TheVariants as answer
-use Rattle.farm_core.proofs.Good.{Good}
-use Rattle.farm_core.proofs.Changes.{good, other_stays}
-use Rattle.farm_core.proofs.Actives.{in_front, front_or_last}
+use Rattle.farm_core.proofs.Good.{Good, another, other_stays}
+use Rattle.farm_core.proofs.Changes.{good}
+use Rattle.farm_core.proofs.Actives.{in_front, front_or_last, open_like}
 use Rattle.farm_core.proofs.Conditions.{holds_to, holds_from}
 use Rattle.farm_core.proofs.Slots.{slot_active, slot_back, not_latest, none_open}
-use Rattle.farm_core.proofs.Farming.{reached_more, slot_kept, another, slots_after, each_added, held_each}
+use Rattle.farm_core.proofs.Farming.{reached_more, slot_kept, slots_after, each_added, held_each}
 
 -- an address that is not held goes from the end
 
@@ -43,15 +43,7 @@ module _ (s : State) (r : Reached s) (t : TxnId) (x z : Active) (nodes : List No
       → ((a : Addr) → holds_at nodes t a ≡ true → in_list a x.locked.items ≡ true → in_list a z.locked.items ≡ true) → At z nodes t s
   asked_still like sets fewer held = record {
     nodes_stand = at.nodes_stand;
-    active = record {
-      is_open = at.active.is_open;
-      stage = ap stage_of like.0 ∙ at.active.stage;
-      read_stamp = like.1 ∙ at.active.read_stamp;
-      write_stamp = like.2 ∙ at.active.write_stamp;
-      reads = ap (λ (w : ReadSet). w.read) sets ∙ at.active.reads;
-      unchecked = ap (λ (w : ReadSet). w.unchecked) sets ∙ at.active.unchecked;
-      locked = λ a there. at.active.locked a (fewer a there);
-    };
+    active = open_like x (s.transactions t) at.active z _ (ap stage_of like.0 ∙ at.active.stage) (like.1, like.2) sets fewer;
     held = λ a has. held a (holds_from s r t x nodes at a has) (at.held a has);
   }
 
@@ -155,7 +147,7 @@ module _ (farm : Farm) (s : State) (st : Stands farm s) (t : TxnId) (actor : IsA
         count = ap length slots_are ∙ (length-set farm.slots.items t.actor later ∙ st.count);
         slots_stand = subst (λ (all : List Slot). (k : ℕ) (d : Slot) → 0 < k → k ≤ ACTOR_LIMIT → SlotStands (get_or all k d) k shut) (sym slots_are)
             (slots_after farm s st t actor later shut own
-            (λ k old differ was. slot_kept old k s shut refl (λ u is. other_stays t u (ended (s.transactions t)) s.transactions (another t u k differ is)) (λ u a is held. held_each s g new_entry u a (λ takes. takes) held) was));
+            (λ k old differ was. slot_kept old k s shut refl (λ u is. other_stays t u (ended (s.transactions t)) s.transactions (another t u k differ is)) (λ u a is held. held_each s g new_entry (λ v b takes. takes) u a held) was));
       },
     ) where
       was : SlotStands slot t.actor s

@@ -1,8 +1,8 @@
 -- Each event keeps a state good.
-use Rattle.std.proofs.Common.{◌≡◌, ◌≢◌, ◌⊎◌, ℕ, ◌+◌, ◌^◌, ◌-◌, ◌*◌, ◌%◌, ◌<◌, ◌≤◌, max, cond, Bool, true, false, ◌||◌, List, [], ◌∷◌, ◌++◌, Option, Some, Result, Ok, Err, sym, refl, ap, ◌∙◌, subst, inl, inr, ⊎_elim, arith}
+use Rattle.std.proofs.Common.{◌≡◌, ◌⊎◌, ℕ, ◌+◌, ◌*◌, ◌%◌, ◌<◌, ◌≤◌, max, cond, Bool, true, false, ◌||◌, List, [], ◌∷◌, ◌++◌, Option, Some, Result, Ok, Err, sym, refl, ap, ◌∙◌, subst, inl, inr, ⊎_elim, arith}
 use Rattle.std.proofs.lemmas.Bool.{eq-eqb, lt-ltb}
 use Rattle.std.proofs.lemmas.Nat.{mod-mul-add}
-use Rattle.farm_core.proofs.Words.{COLLECTOR_ACTOR, LAST_STAMP, Addr, TxnId, same_addr, LeastFree, Hold, Found, Locked, CheckFault, Entry, Bytes, Cell}
+use Rattle.farm_core.proofs.Words.{MayPut, COLLECTOR_ACTOR, LAST_STAMP, Addr, TxnId, same_addr, LeastFree, Hold, Found, Locked, CheckFault, Entry, Bytes, Cell}
 use Rattle.farm_core.proofs.Words.{read_answer, made_by, locked_by, lock_answer, check_answer, NodeState, occupancy, PinnedBy, MayLock, FitsLock, FitsCheck}
 use Rattle.farm_core.proofs.Words.{after, replay, collect_answer, IsStamp, story, Reading, Drawn, Installing, Refused, with_addr, with_locked, in_stage, State}
 use Rattle.farm_core.proofs.Words.{home, node_at, node_of, set_log, adding, adding_to_all, set_transaction, moving, loading_over, IsAt, HoldsLockAt, AllSame}
@@ -13,12 +13,9 @@ use Rattle.farm_node.proofs.Sound.{txn_self}
 use Rattle.farm_node.proofs.Steps.{Askable, askable}
 use Rattle.farm_node.proofs.ReadsStay.{set_self}
 use Rattle.farm_core.proofs.Lists.{replay_more}
-use Rattle.farm_core.proofs.Held.{HasLock, Holds, HoldingCell}
+use Rattle.farm_core.proofs.Held.{HasLock, Holds, HoldingCell, holds_held}
 use Rattle.farm_core.proofs.Good.{Listed, SameIn, Good, home_low, base_loading_over, good_adding}
-use Rattle.farm_core.proofs.Phases.{sane_reading, sane_checking, sane_installing, started, open_stage, good_staged, good_refused, good_locked, good_drawn}
-
-stamp_below : (m n top : ℕ) → m ≤ n → n < top → m < top
-stamp_below m n top le low = omega arith
+use Rattle.farm_core.proofs.Phases.{sane_next, sane_reading, started, open_stage, good_staged, good_refused, good_locked, good_drawn}
 
 pub now_at : (n : ℕ) (log : List Entry) (logs : ℕ → List Entry) → set_log n log logs n ≡ log
 now_at n log logs = ap (λ (g : Bool). cond g log (logs n)) (eq-eqb n n refl)
@@ -27,14 +24,36 @@ module _ (s : State) (g : Good s) where
   pub less_home : (a : Addr) → home s a < s.nodes
   less_home a = home_low s a g.base.count.0
 
-  read_stamp : (t : TxnId) → IsStamp (s.transactions t).read_stamp
-  read_stamp t = stamp_below (s.transactions t).read_stamp s.clock _ (g.base.sane t).read g.base.clock.1
+  pub read_stamp : (t : TxnId) → IsStamp (s.transactions t).read_stamp
+  read_stamp t = let low : (s.transactions t).read_stamp ≤ s.clock = (g.base.sane t).read in let top : IsStamp s.clock = g.base.clock.1 in omega arith
 
-  write_stamp : (t : TxnId) → IsStamp (s.transactions t).write_stamp
-  write_stamp t = stamp_below (s.transactions t).write_stamp s.clock _ (g.base.sane t).write g.base.clock.1
+  pub write_stamp : (t : TxnId) → IsStamp (s.transactions t).write_stamp
+  write_stamp t = let low : (s.transactions t).write_stamp ≤ s.clock = (g.base.sane t).write in let top : IsStamp s.clock = g.base.clock.1 in omega arith
 
-  is_pinned : (t : TxnId) (n : ℕ) → n < s.nodes → (s.transactions t).is_open ≡ true → PinnedBy (node_at s n) t.actor (s.transactions t).read_stamp
+  pub is_pinned : (t : TxnId) (n : ℕ) → n < s.nodes → (s.transactions t).is_open ≡ true → PinnedBy (node_at s n) t.actor (s.transactions t).read_stamp
   is_pinned t n less is_open = ((s.transactions t).read_stamp, g.pins.open_at t n less is_open, omega arith)
+
+  -- what a reading transaction had locked it holds
+  pub locked_held : (t : TxnId) (a : Addr) → IsAt Reading s t → (s.transactions t).had_locked a ≡ true → HoldsLockAt s t a
+  locked_held t a going locked =
+      let h = g.base.held t ((g.base.sane t).begun (open_stage s g t going.0)).0 a in
+      let undrawn : (s.transactions t).write_stamp ≡ 0 = ((g.base.sane t).undrawn going.1).0 in
+      ⊎_elim
+      (λ holds. holds_held (node_of s a) t a holds)
+      (λ put. let drawn : 0 < (s.transactions t).write_stamp = (h.puts put.0 put.1 put.2).drawn in absurd (omega arith))
+      (h.locked locked (λ refused. let at_reading : (s.transactions t).stage ≡ Reading = going.1 in cc))
+
+  -- what it holds when it has drawn it may put
+  has_drawn : (t : TxnId) → (IsAt Drawn s t ⊎ IsAt Installing s t) → (s.transactions t).read_stamp < (s.transactions t).write_stamp
+  has_drawn t at = (g.base.sane t).drawn (⊎_elim (λ x. inl x.1) (λ x. inr x.1) at)
+
+  pub may_put : (t : TxnId) (a : Addr) → (IsAt Drawn s t ⊎ IsAt Installing s t) → HoldsLockAt s t a → MayPut (node_of s a) t a (s.transactions t).write_stamp
+  may_put t a at has =
+      let later : (s.transactions t).read_stamp < (s.transactions t).write_stamp = has_drawn t at in
+      let actor : 0 < t.actor = ((g.base.sane t).begun (open_stage s g t (⊎_elim (λ x. x.0) (λ x. x.0) at))).0 in
+      let holding : HoldingCell t (s.transactions t) (Some has.0) (story a (s.logs (home s a))) =
+      subst (λ (c : Option Cell). HoldingCell t (s.transactions t) c (story a (s.logs (home s a)))) has.2 (g.base.held t actor a).holding in
+      (has.0, has.1, has.2, has.3, has.4, (holding (subst (λ (l : Option Hold). HasLock t l) (sym has.3) has.4)).low (omega arith))
 
   -- a node after one entry more
   grown_node : (n : ℕ) (e : Entry) → n < s.nodes → node_at (adding n e s) n ≡ after (node_at s n) e
@@ -140,7 +159,8 @@ module _ (s : State) (g : Good s) where
         let here : SameIn ((adding (home s a) e s).logs (home s a)) t a (s.transactions t).read_stamp (s.transactions t).write_stamp =
         record { before = s.logs (home s a); rest = []; is = now_at (home s a) (s.logs (home s a) ++ e ∷ []) s.logs } in
         subst Good (sym acts.1) (good_staged (adding (home s a) e s) after_it t (s.transactions t).stage (s.transactions t).has_read (with_addr a (s.transactions t).is_same) (started s g t at.0)
-        (sane_checking s.clock s.begins t (s.transactions t) (g.base.sane t) (with_addr a (s.transactions t).is_same) at.1)
+        (sane_next s.clock s.begins t (s.transactions t) _ _ _ _ _ (with_addr a (s.transactions t).is_same) (g.base.sane t) (λ none. cc) (λ none. cc) (λ o. o) (g.base.sane t).write
+        (λ reading. absurd (cc)) (g.base.sane t).drawn (λ installing. absurd (cc)))
         (λ going. going)
         (λ b. marked b (adding (home s a) e s) here (after_it.base.same t b) (same_addr a b) refl)) where
           marked : (b : Addr) (d : State) → SameIn (d.logs (home s a)) t a (s.transactions t).read_stamp (s.transactions t).write_stamp
@@ -153,33 +173,19 @@ module _ (s : State) (g : Good s) where
 
   -- put
 
-  pub good_put : (t : TxnId) (a : Addr) (next : State) → 0 < t.actor → (IsAt Drawn s t ⊎ IsAt Installing s t) → HoldsLockAt s t a → AllSame (s.transactions t)
+  pub good_put : (t : TxnId) (a : Addr) (next : State) → (IsAt Drawn s t ⊎ IsAt Installing s t) → HoldsLockAt s t a → AllSame (s.transactions t)
       → next ≡ moving t (in_stage Installing) (adding (home s a) (entry.Put t a (s.transactions t).write_stamp) s) → Good next
-  good_put t a next actor at has same is =
+  good_put t a next at has same is =
+      let is_open : (s.transactions t).is_open ≡ true = ⊎_elim (λ x. x.0) (λ x. x.0) at in
+      let later : (s.transactions t).read_stamp < (s.transactions t).write_stamp = has_drawn t at in
       let more : Good (adding (home s a) (entry.Put t a (s.transactions t).write_stamp) s) = good_adding s (home s a) (entry.Put t a (s.transactions t).write_stamp) g (started s g t is_open) (less_home a) tt
-      ((has.0, has.1, has.2, has.3, has.4, bound drawn), write_stamp t) (g.base.sane t).write
-      (λ u mine. subst (λ (z : TxnId). ((s.transactions t).write_stamp ≡ (s.transactions z).write_stamp) × (0 < (s.transactions z).write_stamp)) mine (refl, drawn)) in
+      (may_put t a at has, write_stamp t) (g.base.sane t).write
+      (λ u mine. subst (λ (z : TxnId). ((s.transactions t).write_stamp ≡ (s.transactions z).write_stamp) × (0 < (s.transactions z).write_stamp)) mine (refl, omega arith)) in
       subst Good (sym is) (good_staged (adding (home s a) (entry.Put t a (s.transactions t).write_stamp) s) more t Installing (s.transactions t).has_read (s.transactions t).is_same (started s g t is_open)
-      (sane_installing s.clock s.begins t (s.transactions t) (g.base.sane t) (open_stage s g t is_open) stage same)
-      (λ going. not_refused)
-      (more.base.same t)) where
-        is_open : (s.transactions t).is_open ≡ true
-        is_open = ⊎_elim (λ x. x.0) (λ x. x.0) at
-
-        stage : ((s.transactions t).stage ≡ Drawn) ⊎ ((s.transactions t).stage ≡ Installing)
-        stage = ⊎_elim (λ x. inl x.1) (λ x. inr x.1) at
-
-        not_refused : (s.transactions t).stage ≢ Refused
-        not_refused refused = ⊎_elim (λ (x : (s.transactions t).stage ≡ Drawn). cc) (λ (x : (s.transactions t).stage ≡ Installing). cc) stage
-
-        drawn : 0 < (s.transactions t).write_stamp
-        drawn = let later : (s.transactions t).read_stamp < (s.transactions t).write_stamp = (g.base.sane t).drawn stage in omega arith
-
-        bound : 0 < (s.transactions t).write_stamp → has.0.bound < (s.transactions t).write_stamp
-        bound above =
-            let holding : HoldingCell t (s.transactions t) (Some has.0) (story a (s.logs (home s a))) =
-            subst (λ (c : Option Cell). HoldingCell t (s.transactions t) c (story a (s.logs (home s a)))) has.2 (g.base.held t actor a).holding in
-            (holding (subst (λ (l : Option Hold). HasLock t l) (sym has.3) has.4)).low above
+      (sane_next s.clock s.begins t (s.transactions t) Installing _ _ _ _ _ (g.base.sane t) (open_stage s g t is_open) (λ none. cc) (λ o. o) (g.base.sane t).write (λ reading. absurd (cc))
+      (λ drawn. later) (λ installing. same))
+      (λ going refused. ⊎_elim (λ (x : IsAt Drawn s t). let stage : (s.transactions t).stage ≡ Drawn = x.1 in cc) (λ (x : IsAt Installing s t). let stage : (s.transactions t).stage ≡ Installing = x.1 in cc) at)
+      (more.base.same t))
 
   -- unlock
 

@@ -1,15 +1,14 @@
 -- What the farm stands for after a step.
-use Rattle.std.proofs.Common.{◌≡◌, ◌≢◌, ℕ, ◌+◌, ◌<◌, ◌≤◌, eqb, cond, Bool, true, false, List, [], ◌∷◌, ◌++◌, length, get_or, get_or-set_other, get_or-set_same, Option, Some, None, Result, Ok, Err, sym, refl, ap, ◌∙◌, subst, ⊎_elim, arith}
+use Rattle.std.proofs.Common.{◌≡◌, ◌≢◌, ℕ, ◌+◌, ◌<◌, ◌≤◌, eqb, Bool, true, false, List, [], ◌∷◌, ◌++◌, length, get_or, get_or-set_other, get_or-set_same, Option, Some, None, Result, Ok, Err, sym, refl, ap, ◌∙◌, subst, ⊎_elim, arith}
 use Rattle.std.proofs.Math.ListN.{set, length-set}
-use Rattle.std.proofs.lemmas.Bool.{eqb-true, eqb-false, lt-ltb}
-use Rattle.farm_core.proofs.Words.{ACTOR_LIMIT, Memory, Addr, TxnId, Node, Entry, same_txn, NodeState, HeldBy, Adds, after, replay, Event, Answer, Active, Slot}
-use Rattle.farm_core.proofs.Words.{Farm, Transaction, State, home, node_at, adding_to_all, HoldsLockAt, Steps, IsActor, InRange, Runs, fresh, Reached, plains}
+use Rattle.std.proofs.lemmas.Bool.{eqb-true, eqb-false}
+use Rattle.farm_core.proofs.Words.{ACTOR_LIMIT, Memory, Addr, TxnId, Node, Entry, NodeState, Adds, after, Event, Answer, Active, Slot}
+use Rattle.farm_core.proofs.Words.{Farm, Transaction, State, adding_to_all, HoldsLockAt, Steps, IsActor, InRange, Runs, fresh, Reached, plains}
 use Rattle.farm_core.proofs.Words.{NodesStand, StandsOpen, in_list, Aside, Stepped, IsOf, OpenStands, SlotStands, SlotAt, Stands, StepsTo}
-use Rattle.farm_node.proofs.Sound.{txn_eq}
 use Rattle.farm_core.specs.declared.event.Event.TheVariants as event
-use Rattle.farm_core.proofs.Good.{Good}
-use Rattle.farm_core.proofs.Events.{less_home}
-use Rattle.farm_core.proofs.Changes.{Takes, held_after, node_added}
+use Rattle.farm_core.proofs.Good.{Good, all_grown, another}
+use Rattle.farm_core.proofs.Events.{all_grown_node}
+use Rattle.farm_core.proofs.Changes.{Takes, held_grown}
 
 -- one event more
 
@@ -40,12 +39,6 @@ slot_kept slot k s later begins others held stands = record { begins = stands.be
       let moved : StandsOpen x (later.transactions t) × ((a : Addr) → HoldsLockAt later t a → in_list a x.locked.items ≡ true) =
       (subst (StandsOpen x) (sym (others t refl)) now.0, λ a has. now.1 a (held t a refl has)) in
       subst (λ (n : ℕ). let u : TxnId = record { actor = k; number = n } in StandsOpen x (later.transactions u) × ((a : Addr) → HoldsLockAt later u a → in_list a x.locked.items ≡ true)) (sym begins) moved
-
-pub another : (t u : TxnId) (k : ℕ) → t.actor ≢ k → u.actor ≡ k → same_txn t u ≡ false
-another t u k differ is = by (same_txn t u) refl where
-  by : (b : Bool) → same_txn t u ≡ b → same_txn t u ≡ false
-  by true same = absurd (differ (ap (λ (v : TxnId). v.actor) (txn_eq t u same) ∙ is))
-  by false same = same
 
 -- an event of a transaction
 
@@ -113,12 +106,8 @@ module _ (s : State) (g : Good s) (e : Entry) where
       → NodesStand later s.nodes (adding_to_all e s).logs
   each_added nodes later stand number adds = record {
     number = number ∙ stand.number;
-    each = λ n less. (adds n less).state ∙ (ap (λ (p : NodeState). after p e) (stand.each n less)
-        ∙ (sym (node_added s g n e less) ∙ sym (ap (λ (b : Bool). replay (cond b (s.logs n ++ e ∷ []) (s.logs n))) (lt-ltb n s.nodes less))));
+    each = λ n less. (adds n less).state ∙ (ap (λ (p : NodeState). after p e) (stand.each n less) ∙ sym (all_grown_node s g n e less));
   }
 
-  pub held_each : (u : TxnId) (a : Addr) → (Takes u a e → ⊥) → HoldsLockAt (adding_to_all e s) u a → HoldsLockAt s u a
-  held_each u a none held =
-      let less : home s a < s.nodes = less_home s g a in
-      ⊎_elim (λ before. before) (λ takes. absurd (none takes)) (held_after u (node_at s (home s a)) e a
-      (subst (λ (p : NodeState). HeldBy p u a) (ap (λ (b : Bool). replay (cond b (s.logs (home s a) ++ e ∷ []) (s.logs (home s a)))) (lt-ltb (home s a) s.nodes less) ∙ node_added s g (home s a) e less) held))
+  pub held_each : ((u : TxnId) (a : Addr) → Takes u a e → ⊥) → (u : TxnId) (a : Addr) → HoldsLockAt (adding_to_all e s) u a → HoldsLockAt s u a
+  held_each none u a held = ⊎_elim (λ before. before) (λ takes. absurd (none u a takes)) (held_grown _ s e _ g (all_grown s e) u a held)

@@ -8,7 +8,7 @@ use Rattle.farm_node.specs.declared.entry.Entry.TheVariants as entry
 use Rattle.farm_node.proofs.Stories.{Ends, ends}
 use Rattle.farm_core.proofs.Low.{BoundLow}
 use Rattle.farm_core.proofs.Held.{HoldingCell}
-use Rattle.farm_core.proofs.Good.{Listed, Sane, HeldAt, IsFirst, Base, Good, home_low, grown}
+use Rattle.farm_core.proofs.Good.{Listed, Sane, HeldAt, IsFirst, Base, Good, home_low, set_at}
 
 sane_unbegun : (clock : ℕ) (begins : ℕ → ℕ) (t : TxnId) → Sane clock begins t unbegun
 sane_unbegun clock begins t = record {
@@ -129,8 +129,8 @@ listed_loaded clock nodes n a bytes m low there at_home empty l =
 pub good_load : (s : State) (a : Addr) (bytes : Bytes) → Good s → IsAddr s.nodes a → s.loading ≡ true → (node_of s a).cells a ≡ None
     → Good (record s { logs = set_log (home s a) (log_loaded a bytes (s.logs (home s a))) s.logs })
 good_load s a bytes g there loading empty = good_first (record s { logs = set_log (home s a) (log_loaded a bytes (s.logs (home s a))) s.logs }) b.count b.clock
-    (λ n less. grown (Listed s.clock s.nodes n) (home s a) n (log_loaded a bytes (s.logs (home s a))) s.logs (λ is. subst (λ (z : ℕ). Listed s.clock s.nodes z (log_loaded a bytes (s.logs (home s a)))) is here) (b.lists n less))
-    (λ n less. grown IsFirst (home s a) n (log_loaded a bytes (s.logs (home s a))) s.logs (λ is. first_here) (one.0 n less))
+    (λ n less. set_at (Listed s.clock s.nodes n) (home s a) n (log_loaded a bytes (s.logs (home s a))) s.logs (λ is. subst (λ (z : ℕ). Listed s.clock s.nodes z (log_loaded a bytes (s.logs (home s a)))) is here) (b.lists n less))
+    (λ n less. set_at IsFirst (home s a) n (log_loaded a bytes (s.logs (home s a))) s.logs (λ is. first_here) (one.0 n less))
     one.1 where
       b : Base s
       b = g.base

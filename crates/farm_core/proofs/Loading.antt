@@ -1,18 +1,17 @@
 -- Loading.
-use Rattle.std.proofs.Common.{◌≡◌, ℕ, ◌+◌, ◌*◌, ◌/◌, ◌%◌, ◌<◌, ◌≤◌, eqb, cond, Bool, true, false, is_some, List, length, get_or, Option, Some, None, Ok, sym, refl, ap, ◌∙◌, subst, inl, inr, arith}
-use Rattle.std.proofs.Math.ListN.{set, length-set}
-use Rattle.std.proofs.lemmas.Bool.{both_ways, eqb-true, eqb-false}
+use Rattle.std.proofs.Common.{◌≡◌, ℕ, ◌+◌, ◌*◌, ◌/◌, ◌%◌, ◌<◌, ◌≤◌, Bool, true, false, is_some, List, length, get_or, Option, Some, None, Ok, sym, refl, ap, ◌∙◌, subst, inl, inr, ⊎_elim, arith}
+use Rattle.std.proofs.Math.ListN.{set}
+use Rattle.std.proofs.lemmas.Bool.{both_ways}
 use Rattle.std.proofs.lemmas.Nat.{div-add-mod', div_below}
 use Rattle.farm_core.proofs.Words.{ACTOR_LIMIT, Addr, TxnId, region_count, IsPlace, Node, Entry, Bytes, Cell, loaded_cell, NodeState, HeldBy, occupancy, Lawful}
 use Rattle.farm_core.proofs.Words.{replay, with_cell, plain_of, Slot, Farm, State, home, node_at, node_of, set_log, log_loaded, HoldsLockAt, Meets, IsAddr}
-use Rattle.farm_core.proofs.Words.{IsObject, plains, NodesStand, SlotStands, Stands, StepsTo}
+use Rattle.farm_core.proofs.Words.{IsObject, NodesStand, SlotStands, Stands, StepsTo}
 use Rattle.farm_core.specs.declared.event.Event.TheVariants as event
 use Rattle.farm_core.specs.declared.event.Answer.TheVariants as answer
 use Rattle.farm_core.proofs.Held.{Holds, holds_held}
-use Rattle.farm_core.proofs.Good.{Listed, Good, IsFirst, grown}
+use Rattle.farm_core.proofs.Good.{Listed, Good, IsFirst, set_at}
 use Rattle.farm_core.proofs.Events.{less_home}
-use Rattle.farm_core.proofs.Changes.{good, kept_set, held_holds, old_is, nodes_kept}
-use Rattle.farm_core.proofs.NodeLists.{plains_set, plains_other}
+use Rattle.farm_core.proofs.Changes.{good, holds_set, held_holds, old_is, nodes_set, nodes_kept}
 use Rattle.farm_core.proofs.Farming.{reached_more, slot_kept}
 
 no_value : (c : Option Cell) → is_some c ≡ false → c ≡ None
@@ -86,19 +85,14 @@ module _ (farm : Farm) (s : State) (st : Stands farm s) (a : Addr) where
         written made = made ∙ ((λ i. with_cell a (loaded_cell (here i).floor (same i)) (here i)) ∙ sym (first_loaded (s.logs (home s a)) a bytes log_first))
 
         nodes_after : plain_of v ≡ with_cell a (loaded_cell (plain_of old).floor copy) (plain_of old) → NodesStand (set farm.nodes.items n v) s.nodes later.logs
-        nodes_after made = record { number = length-set farm.nodes.items n v ∙ st.nodes_stand.number; each = λ m lower. by m lower (eqb (home s a) m) refl } where
-          low : n < length farm.nodes.items
-          low = let number : length farm.nodes.items ≡ s.nodes = st.nodes_stand.number in let l : n < s.nodes = n_less in omega arith
-
-          by : (m : ℕ) → m < s.nodes → (b : Bool) → eqb (home s a) m ≡ b → plains (set farm.nodes.items n v) m ≡ replay (cond b (log_loaded a bytes (s.logs (home s a))) (s.logs m))
-          by m lower true at_it = ap (plains (set farm.nodes.items n v)) (sym (n_is ∙ eqb-true (home s a) m at_it)) ∙ (plains_set farm.nodes.items n v low ∙ written made)
-          by m lower false at_it = plains_other farm.nodes.items n m v (λ e. eqb-false (home s a) m at_it (sym n_is ∙ e)) ∙ st.nodes_stand.each m lower
+        nodes_after made = subst (λ (m : ℕ). NodesStand (set farm.nodes.items n v) s.nodes (set_log m (log_loaded a bytes (s.logs (home s a))) s.logs)) n_is
+            (nodes_set s g farm.nodes.items st.nodes_stand n old v n_less (log_loaded a bytes (s.logs (home s a))) (written made))
 
         held_before : (u : TxnId) (b : Addr) → HoldsLockAt later u b → HoldsLockAt s u b
-        held_before u b = grown (λ log. HeldBy (replay log) u b → HoldsLockAt s u b) (home s a) (home s b) (log_loaded a bytes (s.logs (home s a))) s.logs
+        held_before u b = set_at (λ log. HeldBy (replay log) u b → HoldsLockAt s u b) (home s a) (home s b) (log_loaded a bytes (s.logs (home s a))) s.logs
             (λ e held. holds_held (node_of s b) u b (subst (λ (m : ℕ). Holds u ((node_at s m).cells b)) e
-            (kept_set u a b (Some (loaded_cell (node_of s a).floor bytes)) (node_of s a).cells (λ none. absurd none)
-            (subst (λ (p : NodeState). Holds u (p.cells b)) (first_loaded (s.logs (home s a)) a bytes log_first) (held_holds (replay (log_loaded a bytes (s.logs (home s a)))) u b held)))))
+            (⊎_elim (λ old. old) (λ none. absurd none) (holds_set u a b (Some (loaded_cell (node_of s a).floor bytes)) (node_of s a).cells ⊥ (λ none. absurd none)
+            (subst (λ (p : NodeState). Holds u (p.cells b)) (first_loaded (s.logs (home s a)) a bytes log_first) (held_holds (replay (log_loaded a bytes (s.logs (home s a)))) u b held))))))
             (λ held. held)
 
         pub load_stands : (after : Farm) → IsAddr (length farm.nodes.items) a → IsObject bytes → plain_of v ≡ with_cell a (loaded_cell (plain_of old).floor copy) (plain_of old)
