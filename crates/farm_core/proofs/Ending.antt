@@ -12,7 +12,7 @@ use Rattle.farm_core.specs.declared.event.Answer.TheVariants as answer
 use Rattle.farm_core.proofs.Good.{Good, another, other_stays}
 use Rattle.farm_core.proofs.Changes.{good}
 use Rattle.farm_core.proofs.Actives.{in_front, front_or_last, open_like}
-use Rattle.farm_core.proofs.Conditions.{holds_to, holds_from}
+use Rattle.farm_core.proofs.Conditions.{holding_iff}
 use Rattle.farm_core.proofs.Slots.{slot_active, slot_back, not_latest, none_open}
 use Rattle.farm_core.proofs.Farming.{reached_more, slot_kept, slots_after, each_added, held_each}
 
@@ -44,16 +44,16 @@ module _ (s : State) (r : Reached s) (t : TxnId) (x z : Active) (nodes : List No
   asked_still like sets fewer held = record {
     nodes_stand = at.nodes_stand;
     active = open_like x (s.transactions t) at.active z _ (ap stage_of like.0 ∙ at.active.stage) (like.1, like.2) sets fewer;
-    held = λ a has. held a (holds_from s r t x nodes at a has) (at.held a has);
+    held = λ a has. held a ((holding_iff s r t x nodes at a).1 has) (at.held a has);
   }
 
   pub asked_is : (result : Bool) → ((a : Addr) → holds_at nodes t a ≡ true → in_list a x.locked.items ≡ true → in_list a z.locked.items ≡ true)
       → (IsTrue result → (a : Addr) × (holds_at nodes t a ≡ true)) → (result ≡ false → z.locked.items ≡ []) → IsTrue result ↔ HoldsLock s t
-  asked_is result held some none = (λ is. let found = some is in (found.0, holds_to s r t x nodes at found.0 found.1), by result none) where
+  asked_is result held some none = (λ is. let found = some is in (found.0, (holding_iff s r t x nodes at found.0).0 found.1), by result none) where
     by : (b : Bool) → (b ≡ false → z.locked.items ≡ []) → HoldsLock s t → IsTrue b
     by true none has = refl
     by false none has =
-        let there : in_list has.0 z.locked.items ≡ true = held has.0 (holds_from s r t x nodes at has.0 has.1) (at.held has.0 has.1) in
+        let there : in_list has.0 z.locked.items ≡ true = held has.0 ((holding_iff s r t x nodes at has.0).1 has.1) (at.held has.0 has.1) in
         absurd (both_ways (in_list has.0 z.locked.items) (ap (in_list has.0) (none refl)) there)
 
 -- the slot
