@@ -1,7 +1,8 @@
 -- The states before the first begin and the first collect: each list is its first entry.
 use Rattle.std.proofs.Common.{◌≡◌, ℕ, ◌+◌, ◌*◌, ◌/◌, ◌%◌, ◌<◌, ◌≤◌, cond, Bool, true, false, List, [], ◌∷◌, Some, None, sym, refl, ap, ◌∙◌, subst, ⊎_elim, arith}
 use Rattle.std.proofs.Math.Nat.{div-lt_iff_lt-mul}
-use Rattle.farm_core.proofs.Words.{NODE_LIMIT, Addr, TxnId, region_count, same_addr, IsPlace, Start, Entry, Bytes, loaded_cell, occupancy, loaded_cells, begun}
+use Rattle.std.proofs.lemmas.Bool.{both_ways, cond_both}
+use Rattle.farm_core.proofs.Words.{Occupancy, NODE_LIMIT, Addr, TxnId, region_count, same_addr, IsPlace, Start, Entry, Bytes, loaded_cell, occupancy, loaded_cells, begun}
 use Rattle.farm_core.proofs.Words.{Loads, Lawful, replay, IsStart, IsStamp, Installed, Story, nobody, loaded_puts, story_begun, IsAmong, Transaction, unbegun}
 use Rattle.farm_core.proofs.Words.{State, fresh, start_of, home, node_of, set_log, log_loaded, IsAddr}
 use Rattle.farm_node.specs.declared.entry.Entry.TheVariants as entry
@@ -26,17 +27,14 @@ sane_unbegun clock begins t = record {
 
 loaded_nobody : (a : Addr) (stamp : ℕ) (heap : List (Addr × Bytes)) (i : Installed) → IsAmong i (loaded_puts a stamp heap) → i.by ≡ nobody
 loaded_nobody a stamp [] i there = absurd there
-loaded_nobody a stamp (x ∷ xs) i there = by (loaded_nobody a stamp xs i) (same_addr x.0 a) there where
-  by : (IsAmong i (loaded_puts a stamp xs) → i.by ≡ nobody) → (g : Bool) → IsAmong i (cond g (record { by = nobody; read = 0; stamp = stamp; value = Some x.1 } ∷ []) (loaded_puts a stamp xs)) → i.by ≡ nobody
-  by more true there = ⊎_elim (λ is. ap (λ (z : Installed). z.by) (sym is)) (λ none. absurd none) there
-  by more false there = more there
+loaded_nobody a stamp (x ∷ xs) i there = cond_both (same_addr x.0 a) (record { by = nobody; read = 0; stamp = stamp; value = Some x.1 } ∷ []) (loaded_puts a stamp xs) (λ puts. IsAmong i puts → i.by ≡ nobody)
+    (λ is here. ⊎_elim (λ same. ap (λ (z : Installed). z.by) (sym same)) (λ none. absurd none) here)
+    (λ is. loaded_nobody a stamp xs i)
+    there
 
 loaded_free : (t : TxnId) (a : Addr) (stamp : ℕ) (heap : List (Addr × Bytes)) (h : Story) → HoldingCell t unbegun (loaded_cells stamp heap a) h
 loaded_free t a stamp [] h = tt
-loaded_free t a stamp (x ∷ xs) h = by (loaded_free t a stamp xs h) (same_addr x.0 a) where
-  by : HoldingCell t unbegun (loaded_cells stamp xs a) h → (g : Bool) → HoldingCell t unbegun (cond g (Some (loaded_cell stamp x.1)) (loaded_cells stamp xs a)) h
-  by more true = λ has. absurd has
-  by more false = more
+loaded_free t a stamp (x ∷ xs) h = cond_both (same_addr x.0 a) (Some (loaded_cell stamp x.1)) (loaded_cells stamp xs a) (λ c. HoldingCell t unbegun c h) (λ is has. absurd has) (λ is. loaded_free t a stamp xs h)
 
 held_first : (t : TxnId) (a : Addr) (m : Start) → 0 < t.actor → Lawful (entry.Made m ∷ []) → HeldAt t unbegun a (entry.Made m ∷ [])
 held_first t a m actor lawful =
@@ -58,15 +56,6 @@ module _ (s : State) (count : (0 < s.nodes) × (s.nodes ≤ NODE_LIMIT)) (clock 
       let l : Listed s.clock s.nodes (home s a) (s.logs (home s a)) = lists (home s a) less in
       subst (λ (log : List Entry). HeldAt t unbegun a log) (sym f.1) (held_first t a f.0 actor (subst Lawful f.1 l.lawful))
 
-  undrawn : (t : TxnId) → 0 < (s.transactions t).write_stamp → ⊥
-  undrawn t drawn = let is : (s.transactions t).write_stamp ≡ 0 = ap (λ (x : Transaction). x.write_stamp) (none t) in omega arith
-
-  unchecked : (t : TxnId) (a : Addr) → (s.transactions t).is_same a ≡ true → ⊥
-  unchecked t a same = let is : (s.transactions t).is_same a ≡ false = ap (λ (x : Transaction). x.is_same a) (none t) in cc
-
-  closed : (t : TxnId) → (s.transactions t).is_open ≡ true → ⊥
-  closed t is_open = let is : (s.transactions t).is_open ≡ false = ap (λ (x : Transaction). x.is_open) (none t) in cc
-
   pub good_first : Good s
   good_first = record {
     base = record {
@@ -75,12 +64,12 @@ module _ (s : State) (count : (0 < s.nodes) × (s.nodes ≤ NODE_LIMIT)) (clock 
       lists = lists;
       sane = λ t. subst (λ (x : Transaction). Sane s.clock s.begins t x) (sym (none t)) (sane_unbegun s.clock s.begins t);
       held = λ t actor a. subst (λ (x : Transaction). HeldAt t x a (s.logs (home s a))) (sym (none t)) (first_held t a actor);
-      same = λ t a same. absurd (unchecked t a same);
-      apart = λ t u drawn is. absurd (undrawn t drawn);
+      same = λ t a same. absurd (both_ways _ (ap (λ (x : Transaction). x.is_same a) (none t)) same);
+      apart = λ t u drawn is. let undrawn : (s.transactions t).write_stamp ≡ 0 = ap (λ (x : Transaction). x.write_stamp) (none t) in absurd (omega arith);
       first = λ loading. (firsts, none);
     };
     pins = record {
-      open_at = λ t n less is_open. absurd (closed t is_open);
+      open_at = λ t n less is_open. absurd (both_ways _ (ap (λ (x : Transaction). x.is_open) (none t)) is_open);
       none_at = λ k n less nobody_open. ap (λ (log : List Entry). (replay log).pins k) (firsts n less).1;
     };
   }
@@ -103,10 +92,11 @@ loads_same : (m : Start) (new heap : List (Addr × Bytes)) → Loads m heap → 
 loads_same m new [] loads = tt
 loads_same m new (x ∷ xs) loads = (loads.0, loads.1, loads_same m new xs loads.2)
 
-place_of : (m : Start) (nodes n : ℕ) (a : Addr) → 0 < nodes → IsAddr nodes a → a.region % nodes ≡ n → m.node ≡ n → m.nodes ≡ nodes → IsPlace (occupancy (begun m)) a
-place_of m nodes n a low there at_home number count =
+-- an address is a place of its node
+pub is_place : (o : Occupancy) (nodes : ℕ) (a : Addr) → 0 < nodes → IsAddr nodes a → o.node ≡ a.region % nodes → o.nodes ≡ nodes → IsPlace o a
+is_place o nodes a low there number count =
     let quotient : a.region / nodes < region_count = (div-lt_iff_lt-mul {k = nodes} {x = a.region} {y = region_count} low).1 there.0 in
-    let whole : a.region ≡ n + a.region / nodes * nodes = omega arith in
+    let whole : a.region ≡ a.region % nodes + a.region / nodes * nodes = omega arith in
     ((a.region / nodes, quotient, whole ∙ (λ i. sym number i + a.region / nodes * sym count i)), there.1)
 
 listed_loaded : (clock nodes n : ℕ) (a : Addr) (bytes : Bytes) (m : Start) → 0 < nodes → IsAddr nodes a → a.region % nodes ≡ n → loaded_cells m.stamp m.heap a ≡ None
@@ -115,12 +105,12 @@ listed_loaded clock nodes n a bytes m low there at_home empty l =
     let b : IsStart m = l.lawful.0 in
     let stamp : m.stamp ≤ clock = l.low.floor in
     record {
-      lawful = ((b.0, b.1, b.2, b.3, (place_of m nodes n a low there at_home l.number l.count, empty, loads_same m ((a, bytes) ∷ m.heap) m.heap b.4)), tt);
+      lawful = ((b.0, b.1, b.2, b.3, (is_place (occupancy (begun m)) nodes a low there (l.number ∙ sym at_home) l.count, empty, loads_same m ((a, bytes) ∷ m.heap) m.heap b.4)), tt);
       number = l.number;
       count = l.count;
       actors = l.actors;
       low = record {
-        cells = λ c. elim (same_addr a c) as (λ g. BoundLow clock (cond g (Some (loaded_cell m.stamp bytes)) (loaded_cells m.stamp m.heap c))) [ true ↦ stamp | false ↦ l.low.cells c ];
+        cells = λ c. cond_both (same_addr a c) _ _ (BoundLow clock) (λ is. stamp) (λ is. l.low.cells c);
         past = l.low.past;
         floor = l.low.floor;
       };

@@ -1,6 +1,7 @@
 -- What one transaction's phase says of one address: of its lock there, and of its puts.
 use Rattle.std.proofs.Common.{◌≡◌, ◌≢◌, ◌⊎◌, ℕ, ◌<◌, ◌≤◌, max, cond, Bool, true, false, List, ◌∷◌, Option, Some, None, Ok, ◌||◌, sym, refl, ap, ◌∙◌, subst, inl, inr, ⊎_elim, arith}
-use Rattle.farm_core.proofs.Words.{Addr, TxnId, same_addr, newest, Hold, Entry, Cell, same_txn, is_gone, NodeState, HeldBy, Given, gives, Installed, Story}
+use Rattle.std.proofs.lemmas.Bool.{both_ways, or_cases, cond-true}
+use Rattle.farm_core.proofs.Words.{with_addr, Addr, TxnId, same_addr, newest, Hold, Entry, Cell, same_txn, is_gone, NodeState, HeldBy, Given, gives, Installed, Story}
 use Rattle.farm_core.proofs.Words.{IsAmong, Stage, Refused, Transaction, unbegun, begun_at, drawn_at, with_locked, ended}
 use Rattle.farm_node.specs.declared.entry.Entry.TheVariants as entry
 use Rattle.farm_node.specs.Cell.{is_open as is_free}
@@ -79,7 +80,7 @@ holds_lock : (t u : TxnId) (l : Option Hold) (k : Hold) → l ≡ Some k → k.b
 holds_lock t u l k is own same = subst (λ (z : Option Hold). HasLock t z) (sym is) (own ∙ same)
 
 given_own : (t u : TxnId) (g : Given) (h : Story) → u ≡ t → cond (same_txn u t) g (h.given t) ≡ g
-given_own t u g h same = ap (λ (b : Bool). cond b g (h.given t)) (ap (λ (z : TxnId). same_txn z t) same ∙ txn_self t)
+given_own t u g h same = cond-true (same_txn u t) g (h.given t) (ap (λ (z : TxnId). same_txn z t) same ∙ txn_self t)
 
 puts_more : (t : TxnId) (i : Installed) (puts : List Installed) → HasPut t puts → HasPut t (i ∷ puts)
 puts_more t i puts has = (has.0, inr has.1, has.2)
@@ -186,43 +187,34 @@ module _ (t : TxnId) (x : Transaction) (a : Addr) where
 
 -- a phase moves on
 
-holding_moved : (t : TxnId) (x y : Transaction) (c : Option Cell) (h : Story) → ((bound : ℕ) → Holding t x bound h → Holding t y bound h) → HoldingCell t x c h → HoldingCell t y c h
-holding_moved t x y None h moved holding = tt
-holding_moved t x y (Some c) h moved holding = λ has. moved c.bound (holding has)
+holding_moved : (t : TxnId) (x z : Transaction) (c : Option Cell) (h : Story) → (Holds t c → (bound : ℕ) → Holding t x bound h → Holding t z bound h) → HoldingCell t x c h → HoldingCell t z c h
+holding_moved t x z None h moved holding = tt
+holding_moved t x z (Some c) h moved holding = λ has. moved has c.bound (holding has)
 
 module _ (t : TxnId) (x : Transaction) (a : Addr) (c : Option Cell) (past floor : ℕ) (h : Story) where
+  -- a change that leaves the stamps
+  held_with : (stage : Stage) (is_open : Bool) (reads locks sames : Addr → Bool) → (Holds t c → x.is_open ≡ true → is_open ≡ true) → (locks a ≡ true → stage ≢ Refused → Holds t c ⊎ HasPut t h.puts)
+      → Held t x a c past floor h → Held t (record x { stage = stage; is_open = is_open; has_read = reads; had_locked = locks; is_same = sames }) a c past floor h
+  held_with stage is_open reads locks sames opens locked y = record {
+    below = y.below;
+    puts = λ i there mine. let z : IsPut x i = y.puts i there mine in record { stamp = z.stamp; drawn = z.drawn; read = z.read };
+    holding = holding_moved t x (record x { stage = stage; is_open = is_open; has_read = reads; had_locked = locks; is_same = sames }) c h
+        (λ has bound z. record { is_open = opens has z.is_open; low = z.low; read = z.read }) y.holding;
+    locked = locked;
+  }
+
   -- a change of the stage, and of what was read or is the same
   pub held_staged : (stage : Stage) (reads sames : Addr → Bool) → (stage ≢ Refused → x.stage ≢ Refused) → Held t x a c past floor h
       → Held t (record x { stage = stage; has_read = reads; is_same = sames }) a c past floor h
-  held_staged stage reads sames going y = record {
-    below = y.below;
-    puts = λ i there mine. let z : IsPut x i = y.puts i there mine in record { stamp = z.stamp; drawn = z.drawn; read = z.read };
-    holding = holding_moved t x (record x { stage = stage; has_read = reads; is_same = sames }) c h (λ bound z. record { is_open = z.is_open; low = z.low; read = z.read }) y.holding;
-    locked = λ is on. y.locked is (going on);
-  }
+  held_staged stage reads sames going y = held_with stage x.is_open reads x.had_locked sames (λ has is. is) (λ is on. y.locked is (going on)) y
 
   -- a lock that it has
   pub held_locked : (b : Addr) → (b ≡ a → Holds t c) → Held t x a c past floor h → Held t (with_locked b x) a c past floor h
-  held_locked b has y = record {
-    below = y.below;
-    puts = λ i there mine. let z : IsPut x i = y.puts i there mine in record { stamp = z.stamp; drawn = z.drawn; read = z.read };
-    holding = holding_moved t x (with_locked b x) c h (λ bound z. record { is_open = z.is_open; low = z.low; read = z.read }) y.holding;
-    locked = by (same_addr b a) refl;
-  } where
-    by : (g : Bool) → same_addr b a ≡ g → (g || x.had_locked a) ≡ true → x.stage ≢ Refused → Holds t c ⊎ HasPut t h.puts
-    by true same is going = inl (has (addr_eq b a same))
-    by false same is going = y.locked is going
+  held_locked b has y = held_with x.stage x.is_open x.has_read (with_addr b x.had_locked) x.is_same (λ has is. is)
+      (λ is going. ⊎_elim (λ same. inl (has (addr_eq b a same))) (λ old. y.locked old going) (or_cases (same_addr b a) (x.had_locked a) is)) y
 
   pub held_ended : (Holds t c → ⊥) → Held t x a c past floor h → Held t (ended x) a c past floor h
-  held_ended free y = record {
-    below = y.below;
-    puts = λ i there mine. let z : IsPut x i = y.puts i there mine in record { stamp = z.stamp; drawn = z.drawn; read = z.read };
-    holding = by c free;
-    locked = y.locked;
-  } where
-    by : (c : Option Cell) → (Holds t c → ⊥) → HoldingCell t (ended x) c h
-    by None free = tt
-    by (Some c) free = λ has. absurd (free has)
+  held_ended free y = held_with x.stage false x.has_read x.had_locked x.is_same (λ has. absurd (free has)) y.locked y
 
   -- a draw above every bound
   pub held_drawn : (clock w : ℕ) → x.write_stamp ≡ 0 → x.stage ≢ Refused → BoundLow clock c → clock < w → Held t x a c past floor h → Held t (drawn_at w x) a c past floor h
@@ -240,9 +232,6 @@ module _ (t : TxnId) (x : Transaction) (a : Addr) (c : Option Cell) (past floor 
   held_begun r is y = record {
     below = y.below;
     puts = λ i there mine. let z : 0 < x.write_stamp = (y.puts i there mine).drawn in let undrawn : x.write_stamp ≡ 0 = ap (λ (z : Transaction). z.write_stamp) is in absurd (omega arith);
-    holding = by c y.holding;
+    holding = holding_moved t x (begun_at r) c h (λ has bound z. absurd (both_ways _ (ap (λ (w : Transaction). w.is_open) is) z.is_open)) y.holding;
     locked = λ locked going. absurd (cc);
-  } where
-    by : (c : Option Cell) → HoldingCell t x c h → HoldingCell t (begun_at r) c h
-    by None holding = tt
-    by (Some c) holding = λ has. let z : x.is_open ≡ true = (holding has).is_open in let closed : x.is_open ≡ false = ap (λ (z : Transaction). z.is_open) is in absurd (cc)
+  }

@@ -12,6 +12,7 @@ use Rattle.farm_core.proofs.Held.{Holds, holds_held}
 use Rattle.farm_core.proofs.Good.{Listed, Good, IsFirst, set_at}
 use Rattle.farm_core.proofs.Events.{less_home}
 use Rattle.farm_core.proofs.Changes.{good, holds_set, held_holds, old_is, nodes_set, nodes_kept}
+use Rattle.farm_core.proofs.First.{is_place}
 use Rattle.farm_core.proofs.Farming.{reached_more, slot_kept}
 
 no_value : (c : Option Cell) → is_some c ≡ false → c ≡ None
@@ -28,9 +29,6 @@ first_loaded log a bytes first = subst (λ (es : List Entry). replay (log_loaded
 
 first_floor : (log : List Entry) → IsFirst log → Lawful log → 0 < (replay log).floor
 first_floor log first lawful = subst (λ (es : List Entry). Lawful es → 0 < (replay es).floor) (sym first.1) (λ l. l.0.2) lawful
-
-divided : (r k n : ℕ) → 0 < n → r < k * n → (r / n < k) × (r ≡ r % n + (r / n) * n)
-divided r k n some low = let whole : r / n * n + r % n ≡ r = div-add-mod' r n in (div_below r n k some low, omega arith)
 
 module _ (farm : Farm) (s : State) (st : Stands farm s) (a : Addr) where
   g : Good s
@@ -67,12 +65,8 @@ module _ (farm : Farm) (s : State) (st : Stands farm s) (a : Addr) where
       load_stamp = subst (λ (p : NodeState). 0 < p.floor) (sym here) (first_floor (s.logs (home s a)) log_first (g.base.lists (home s a) less).lawful)
 
       pub load_place : IsAddr (length farm.nodes.items) a → IsPlace (occupancy (plain_of old)) a
-      load_place range =
-          let l : Listed s.clock s.nodes (home s a) (s.logs (home s a)) = g.base.lists (home s a) less in
-          let low : a.region < region_count * s.nodes = subst (λ (k : ℕ). a.region < region_count * k) st.nodes_stand.number range.0 in
-          let parts = divided a.region region_count s.nodes g.base.count.0 low in
-          subst (λ (p : NodeState). IsPlace (occupancy p) a) (sym here)
-          ((a.region / s.nodes, parts.0, parts.1 ∙ (λ i. sym l.number i + (a.region / s.nodes) * sym l.count i)), range.1)
+      load_place range = let l : Listed s.clock s.nodes (home s a) (s.logs (home s a)) = g.base.lists (home s a) less in
+          subst (λ (p : NodeState). IsPlace (occupancy p) a) (sym here) (is_place (occupancy (node_of s a)) s.nodes a g.base.count.0 (subst (λ (k : ℕ). IsAddr k a) st.nodes_stand.number range) l.number l.count)
 
       module _ (v : Node) (bytes copy : Bytes) (same : copy ≡ bytes) (has : Bool) (says : has ≡ is_some ((plain_of old).cells a)) (free : has ≡ false) where
         abbrev later : State

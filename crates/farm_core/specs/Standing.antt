@@ -1,5 +1,5 @@
 -- Which states of the machine the executable core stands for.
-use Rattle.std.specs.Prelude.{◌≡◌, ℕ, zero, suc, ◌%◌, ◌<◌, ◌≤◌, Bool, true, false, not, ◌&&◌, ◌||◌, List, [], ◌∷◌, length, Result, Ok, Err}
+use Rattle.std.specs.Prelude.{◌≡◌, ℕ, ◌%◌, ◌<◌, ◌≤◌, Bool, true, false, not, ◌&&◌, ◌||◌, List, [], ◌∷◌, length, map, slice_index_or, Result, Ok, Err}
 use Rattle.std.specs.List.{list_any}
 use Rattle.a1_base.specs.declared.limits.TheConstants.{NODE_LIMIT}
 use Rattle.a1_base.specs.declared.Memory.{Memory}
@@ -35,9 +35,7 @@ Reached s = (0 < s.nodes) × (s.nodes ≤ NODE_LIMIT) × ((events : List Event) 
 
 -- the plain state of each node
 abbrev pub plains : List Node → ℕ → NodeState
-plains [] n = nowhere
-plains (x ∷ xs) zero = plain_of x
-plains (x ∷ xs) (suc n) = plains xs n
+plains nodes n = slice_index_or (map plain_of nodes) n nowhere
 
 -- each node stands for its list
 pub record NodesStand (nodes : List Node) (count : ℕ) (logs : ℕ → List Entry) : Type 0 where
