@@ -1,7 +1,7 @@
 -- A begin.
 use Rattle.std.proofs.Common.{◌≡◌, ℕ, ◌+◌, ◌<◌, ◌≤◌, max, eqb, cond, Bool, true, false, not, is_some, List, length, get_or, Option, Some, None, Ok, sym, refl, ap, ◌∙◌, subst, inl, inr, arith}
 use Rattle.std.proofs.Math.ListN.{set, length-set}
-use Rattle.std.proofs.lemmas.Bool.{and_parts, and_from, both_ways, eqb-true, eq-eqb, ne_eqb}
+use Rattle.std.proofs.lemmas.Bool.{and_parts, and_from, both_ways, cond-true, cond-false, eqb-true, eq-eqb, ne_eqb}
 use Rattle.farm_core.proofs.Words.{ACTOR_LIMIT, Addr, TxnId, Hold, Node, Entry, Cell, NodeState, Adds, IsStamp, story, Active, Slot, Farm, begun_at, State}
 use Rattle.farm_core.proofs.Words.{home, node_at, adding_to_all, moving, counting_begin, loading_over, HoldsLockAt, Meets, IsActor, plains, NodesStand}
 use Rattle.farm_core.proofs.Words.{StandsOpen, in_list, OpenStands, SlotStands, Stands, StepsTo, AddsEach, may_begin}
@@ -11,7 +11,7 @@ use Rattle.farm_core.specs.declared.event.Answer.TheVariants as answer
 use Rattle.farm_core.proofs.Held.{HasLock, HoldingCell}
 use Rattle.farm_core.proofs.Good.{Good, NoneOpen, another, self_moved, other_stays}
 use Rattle.farm_core.proofs.Changes.{good}
-use Rattle.farm_core.proofs.Farming.{reached_more, slot_kept, slots_after, each_added, held_each}
+use Rattle.farm_core.proofs.Farming.{reached_more, slot_of, stands_set, each_added, held_each}
 
 none_is : (o : Option Active) → not (is_some o) ≡ true → o ≡ None
 none_is None is = refl
@@ -26,7 +26,7 @@ module _ (farm : Farm) (s : State) (st : Stands farm s) (t : TxnId) (actor : IsA
 
   module _ (slot : Slot) (there : slot ≡ get_or farm.slots.items t.actor slot) where
     slot_is : SlotStands slot t.actor s
-    slot_is = subst (λ (z : Slot). SlotStands z t.actor s) (sym there) (st.slots_stand t.actor slot actor.0 actor.1)
+    slot_is = slot_of farm s st t actor slot there
 
     pub begin_meets : may_begin slot t.number ≡ true → Meets s (event.Begin t)
     begin_meets may =
@@ -86,7 +86,7 @@ module _ (farm : Farm) (s : State) (st : Stands farm s) (t : TxnId) (actor : IsA
         both_ways (s.transactions t).is_open (meets.0 t refl) is_open
 
     number_is : t.number ≡ begun.begins t.actor
-    number_is = meets.1 ∙ sym (ap (λ (b : Bool). cond b (s.begins t.actor + 1) (s.begins t.actor)) (eq-eqb t.actor t.actor refl))
+    number_is = meets.1 ∙ sym (cond-true (eqb t.actor t.actor) _ _ (eq-eqb t.actor t.actor refl))
 
     own_slot : (x : Active) → StandsOpen x (begun_at s.clock) → SlotStands (record { begins = t.number; «open» = Some x }) t.actor begun
     own_slot x open_now = record {
@@ -102,16 +102,12 @@ module _ (farm : Farm) (s : State) (st : Stands farm s) (t : TxnId) (actor : IsA
     begin_stands x nodes later after open_now same number adds nodes_are clock_is loading_is slots_are = (
       begun,
       inl (meets, (ap answer.At st.clock_is, refl)),
-      record {
-        reached = reached_more s (event.Begin t) (answer.At s.clock) begun st.reached actor (inl (meets, (refl, refl))) refl;
-        clock_is = clock_is ∙ st.clock_is;
-        loading_is = loading_is;
-        nodes_stand = subst (λ (ns : List Node). NodesStand ns begun.nodes begun.logs) (sym nodes_are)
-            (each_added s g new_entry farm.nodes.items later st.nodes_stand (number ∙ ap length same) (adds_entry nodes later same adds));
-        count = ap length slots_are ∙ (length-set farm.slots.items t.actor _ ∙ st.count);
-        slots_stand = subst (λ (all : List Slot). (k : ℕ) (d : Slot) → 0 < k → k ≤ ACTOR_LIMIT → SlotStands (get_or all k d) k begun) (sym slots_are)
-            (slots_after farm s st t actor (record { begins = t.number; «open» = Some x }) begun (own_slot x (subst (λ (n : ℕ). StandsOpen x (begun_at n)) st.clock_is open_now))
-            (λ k old differ was. slot_kept old k s begun (ap (λ (b : Bool). cond b (s.begins k + 1) (s.begins k)) (ne_eqb t.actor k differ))
-            (λ u is. other_stays t u (begun_at s.clock) s.transactions (another t u k differ is)) (λ u a is. held_none u a) was));
-      },
+      stands_set farm s st t actor after begun _ (reached_more s (event.Begin t) (answer.At s.clock) begun st.reached actor (inl (meets, (refl, refl))) refl) (clock_is ∙ st.clock_is) loading_is
+          (subst (λ (ns : List Node). NodesStand ns begun.nodes begun.logs) (sym nodes_are)
+          (each_added s g new_entry farm.nodes.items later st.nodes_stand (number ∙ ap length same) (adds_entry nodes later same adds)))
+          slots_are
+          (own_slot x (subst (λ (n : ℕ). StandsOpen x (begun_at n)) st.clock_is open_now))
+          (λ k differ. cond-false (eqb t.actor k) _ _ (ne_eqb t.actor k differ))
+          (λ u. other_stays t u (begun_at s.clock) s.transactions)
+          (λ u a other. held_none u a),
     )

@@ -8,7 +8,7 @@ use Rattle.farm_core.specs.declared.event.Event.TheVariants as event
 use Rattle.farm_core.specs.declared.event.Answer.TheVariants as answer
 use Rattle.farm_core.proofs.Good.{Good}
 use Rattle.farm_core.proofs.Changes.{good, old_is, nodes_written, held_adding}
-use Rattle.farm_core.proofs.Farming.{reached_more, slot_kept}
+use Rattle.farm_core.proofs.Farming.{reached_more, stands_kept}
 
 module _ (farm : Farm) (s : State) (st : Stands farm s) where
   g : Good s
@@ -23,15 +23,10 @@ module _ (farm : Farm) (s : State) (st : Stands farm s) where
   collect_stands n old v removed after low there adds nodes_are clock_is loading_is slots_are = (
     later,
     inl (tt, acts),
-    record {
-      reached = reached_more s (event.Collect n) (answer.Collected removed.floor removed.versions removed.objects) later st.reached less (inl (tt, acts)) refl;
-      clock_is = clock_is ∙ st.clock_is;
-      loading_is = loading_is;
-      nodes_stand = subst (λ (ns : List Node). NodesStand ns later.nodes later.logs) (sym nodes_are) (nodes_written s g farm.nodes.items st.nodes_stand n old v less e adds_it);
-      count = ap length slots_are ∙ st.count;
-      slots_stand = subst (λ (all : List Slot). (k : ℕ) (d : Slot) → 0 < k → k ≤ ACTOR_LIMIT → SlotStands (get_or all k d) k later) (sym slots_are)
-          (λ k d low high. slot_kept (get_or farm.slots.items k d) k s later refl (λ u is. refl) (λ u a is. held u a) (st.slots_stand k d low high));
-    },
+    stands_kept farm s st after later (reached_more s (event.Collect n) (answer.Collected removed.floor removed.versions removed.objects) later st.reached less (inl (tt, acts)) refl)
+        (clock_is ∙ st.clock_is) loading_is
+        (subst (λ (ns : List Node). NodesStand ns later.nodes later.logs) (sym nodes_are) (nodes_written s g farm.nodes.items st.nodes_stand n old v less e adds_it))
+        slots_are refl refl (λ u a has. ⊎_elim (λ before. before) (λ takes. absurd takes) (held_adding s g n e u a has)),
   ) where
     less : n < s.nodes
     less = let number : length farm.nodes.items ≡ s.nodes = st.nodes_stand.number in omega arith
@@ -53,6 +48,3 @@ module _ (farm : Farm) (s : State) (st : Stands farm s) where
 
     acts : Collects s n (collect_answer (node_at s n) s.clock) (answer.Collected removed.floor removed.versions removed.objects) later
     acts = subst (λ (w : Collected). Collects s n w (answer.Collected removed.floor removed.versions removed.objects) later) due (refl, refl)
-
-    held : (u : TxnId) (a : Addr) → HoldsLockAt later u a → HoldsLockAt s u a
-    held u a has = ⊎_elim (λ before. before) (λ takes. absurd takes) (held_adding s g n e u a has)

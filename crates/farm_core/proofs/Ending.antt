@@ -1,7 +1,7 @@
 -- The end of a transaction.
 use Rattle.std.proofs.Common.{◌≡◌, ◌≢◌, ◌↔◌, ℕ, ◌-◌, ◌<◌, ◌≤◌, option_to_list, cond, Bool, true, false, List, [], ◌∷◌, ◌++◌, length, get_or, Option, Some, None, Ok, IsTrue, sym, refl, ap, ◌∙◌, subst, inl, inr, ⊎_elim, arith}
 use Rattle.std.proofs.Math.ListN.{set, length-set}
-use Rattle.std.proofs.lemmas.Bool.{both_ways}
+use Rattle.std.proofs.lemmas.Bool.{both_ways, cond_both, false_from_ne_true}
 use Rattle.farm_core.proofs.Words.{ACTOR_LIMIT, Addr, TxnId, Node, Entry, same_txn, NodeState, Adds, Active, Slot, Farm, ended, State, adding_to_all, moving}
 use Rattle.farm_core.proofs.Words.{HoldsLock, Meets, IsActor, read_set, Reached, plains, NodesStand, in_list, stage_of, At, AtClock, holds_at}
 use Rattle.farm_core.proofs.Words.{OpenStands, SlotStands, SlotAt, Stands, StepsTo, AddsEach, Shuts}
@@ -10,11 +10,12 @@ use Rattle.farm_node.proofs.Sound.{txn_self}
 use Rattle.farm_core.specs.declared.event.Event.TheVariants as event
 use Rattle.farm_core.specs.declared.event.Answer.TheVariants as answer
 use Rattle.farm_core.proofs.Good.{Good, another, other_stays}
+use Rattle.farm_core.proofs.Opens.{sole}
 use Rattle.farm_core.proofs.Changes.{good}
 use Rattle.farm_core.proofs.Actives.{in_front, front_or_last, open_like}
 use Rattle.farm_core.proofs.Conditions.{holding_iff}
 use Rattle.farm_core.proofs.Slots.{slot_active, slot_back, not_latest, none_open}
-use Rattle.farm_core.proofs.Farming.{reached_more, slot_kept, slots_after, each_added, held_each}
+use Rattle.farm_core.proofs.Farming.{reached_more, slot_of, stands_set, each_added, held_each}
 
 -- an address that is not held goes from the end
 
@@ -95,15 +96,8 @@ module _ (farm : Farm) (s : State) (st : Stands farm s) (t : TxnId) (actor : IsA
   shut_no slot nodes after lacks nodes_are clock_is loading_is slots_are = (
     s,
     inr (lacks.0, (refl, refl)),
-    record {
-      reached = st.reached;
-      clock_is = clock_is ∙ st.clock_is;
-      loading_is = loading_is ∙ st.loading_is;
-      nodes_stand = subst (λ (ns : List Node). NodesStand ns s.nodes s.logs) (sym nodes_are) st.nodes_stand;
-      count = ap length slots_are ∙ (length-set farm.slots.items t.actor slot ∙ st.count);
-      slots_stand = subst (λ (all : List Slot). (k : ℕ) (d : Slot) → 0 < k → k ≤ ACTOR_LIMIT → SlotStands (get_or all k d) k s) (sym slots_are)
-          (slots_after farm s st t actor slot s lacks.1.slot_stands (λ k old differ was. was));
-    },
+    stands_set farm s st t actor after s slot st.reached (clock_is ∙ st.clock_is) (loading_is ∙ st.loading_is) (subst (λ (ns : List Node). NodesStand ns s.nodes s.logs) (sym nodes_are) st.nodes_stand)
+        slots_are lacks.1.slot_stands (λ k differ. refl) (λ u other. refl) (λ u a other held. held),
   )
 
   module _ (meets : Meets s (event.Shut t)) where
@@ -120,14 +114,8 @@ module _ (farm : Farm) (s : State) (st : Stands farm s) (t : TxnId) (actor : IsA
     shut = moving t ended (adding_to_all (entry.Shut t.actor) s)
 
     none_left : (u : TxnId) → u.actor ≡ t.actor → (shut.transactions u).is_open ≡ false
-    none_left u same = by (same_txn t u) (s.transactions u).is_open refl refl where
-      by : (b o : Bool) → same_txn t u ≡ b → (s.transactions u).is_open ≡ o → (cond b (ended (s.transactions t)) (s.transactions u)).is_open ≡ false
-      by true o is now = refl
-      by false false is now = now
-      by false true is now =
-          let number : t.number ≡ u.number = (g.base.sane t).current meets.0 ∙ (ap s.begins (sym same) ∙ sym ((g.base.sane u).current now)) in
-          let one : t ≡ u = λ i. record { actor = sym same i; number = number i } in
-          absurd (both_ways (same_txn t u) is (ap (same_txn t) (sym one) ∙ txn_self t))
+    none_left u same = cond_both (same_txn t u) (ended (s.transactions t)) (s.transactions u) (λ x. x.is_open ≡ false) (λ is. refl)
+        (λ is. false_from_ne_true _ (λ now. both_ways (same_txn t u) is (ap (same_txn t) (sym (sole s g t u meets.0 now (sym same))) ∙ txn_self t)))
 
     pub shut_stands : (slot : Slot) (later : Slot) (nodes after_nodes : List Node) (after : Farm) → slot ≡ get_or farm.slots.items t.actor slot → later.begins ≡ slot.begins → later.open ≡ None
         → nodes ≡ farm.nodes.items → length after_nodes ≡ length nodes → AddsEach (λ p. entry.Shut t.actor) nodes after_nodes
@@ -136,22 +124,14 @@ module _ (farm : Farm) (s : State) (st : Stands farm s) (t : TxnId) (actor : IsA
     shut_stands slot later nodes after_nodes after there begins none same number adds nodes_are clock_is loading_is slots_are = (
       shut,
       inl (meets, (refl, refl)),
-      record {
-        reached = reached_more s (event.Shut t) answer.Shut shut st.reached actor (inl (meets, (refl, refl))) refl;
-        clock_is = clock_is ∙ st.clock_is;
-        loading_is = loading_is ∙ st.loading_is;
-        nodes_stand = subst (λ (ns : List Node). NodesStand ns shut.nodes shut.logs) (sym nodes_are)
-            (each_added s g new_entry farm.nodes.items after_nodes st.nodes_stand (number ∙ ap length same)
-            (λ n less. let count : length nodes ≡ s.nodes = ap length same ∙ st.nodes_stand.number in
-            subst (λ (ns : List Node). Adds (plains ns n) new_entry (plains after_nodes n)) same (adds n (omega arith))));
-        count = ap length slots_are ∙ (length-set farm.slots.items t.actor later ∙ st.count);
-        slots_stand = subst (λ (all : List Slot). (k : ℕ) (d : Slot) → 0 < k → k ≤ ACTOR_LIMIT → SlotStands (get_or all k d) k shut) (sym slots_are)
-            (slots_after farm s st t actor later shut own
-            (λ k old differ was. slot_kept old k s shut refl (λ u is. other_stays t u (ended (s.transactions t)) s.transactions (another t u k differ is)) (λ u a is held. held_each s g new_entry (λ v b takes. takes) u a held) was));
-      },
-    ) where
-      was : SlotStands slot t.actor s
-      was = subst (λ (z : Slot). SlotStands z t.actor s) (sym there) (st.slots_stand t.actor slot actor.0 actor.1)
-
-      own : SlotStands later t.actor shut
-      own = record { begins = begins ∙ was.begins; current = subst (λ (o : Option Active). OpenStands o t.actor shut) (sym none) none_left }
+      stands_set farm s st t actor after shut later (reached_more s (event.Shut t) answer.Shut shut st.reached actor (inl (meets, (refl, refl))) refl) (clock_is ∙ st.clock_is) (loading_is ∙ st.loading_is)
+          (subst (λ (ns : List Node). NodesStand ns shut.nodes shut.logs) (sym nodes_are)
+          (each_added s g new_entry farm.nodes.items after_nodes st.nodes_stand (number ∙ ap length same)
+          (λ n less. let count : length nodes ≡ s.nodes = ap length same ∙ st.nodes_stand.number in
+          subst (λ (ns : List Node). Adds (plains ns n) new_entry (plains after_nodes n)) same (adds n (omega arith)))))
+          slots_are
+          (record { begins = begins ∙ (slot_of farm s st t actor slot there).begins; current = subst (λ (o : Option Active). OpenStands o t.actor shut) (sym none) none_left })
+          (λ k differ. refl)
+          (λ u. other_stays t u (ended (s.transactions t)) s.transactions)
+          (λ u a other. held_each s g new_entry (λ v b takes. takes) u a),
+    )

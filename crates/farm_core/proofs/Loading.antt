@@ -13,7 +13,7 @@ use Rattle.farm_core.proofs.Good.{Listed, Good, IsFirst, set_at}
 use Rattle.farm_core.proofs.Events.{less_home}
 use Rattle.farm_core.proofs.Changes.{good, holds_set, held_holds, old_is, nodes_set, nodes_kept}
 use Rattle.farm_core.proofs.First.{is_place}
-use Rattle.farm_core.proofs.Farming.{reached_more, slot_kept}
+use Rattle.farm_core.proofs.Farming.{reached_more, stands_kept}
 
 no_value : (c : Option Cell) → is_some c ≡ false → c ≡ None
 no_value None is = refl
@@ -95,24 +95,13 @@ module _ (farm : Farm) (s : State) (st : Stands farm s) (a : Addr) where
         load_stands after range object made nodes_are clock_is loading_is slots_are = (
           later,
           inl (meets, (refl, refl)),
-          record {
-            reached = reached_more s (event.Load a bytes) answer.Loaded later st.reached (subst (λ (k : ℕ). IsAddr k a) st.nodes_stand.number range, object) (inl (meets, (refl, refl))) refl;
-            clock_is = clock_is ∙ st.clock_is;
-            loading_is = loading_is ∙ st.loading_is;
-            nodes_stand = subst (λ (ns : List Node). NodesStand ns later.nodes later.logs) (sym nodes_are) (nodes_after made);
-            count = ap length slots_are ∙ st.count;
-            slots_stand = subst (λ (all : List Slot). (k : ℕ) (d : Slot) → 0 < k → k ≤ ACTOR_LIMIT → SlotStands (get_or all k d) k later) (sym slots_are)
-                (λ k d low high. slot_kept (get_or farm.slots.items k d) k s later refl (λ u e. refl) (λ u b e. held_before u b) (st.slots_stand k d low high));
-          },
+          stands_kept farm s st after later
+              (reached_more s (event.Load a bytes) answer.Loaded later st.reached (subst (λ (k : ℕ). IsAddr k a) st.nodes_stand.number range, object) (inl (meets, (refl, refl))) refl)
+              (clock_is ∙ st.clock_is) (loading_is ∙ st.loading_is) (subst (λ (ns : List Node). NodesStand ns later.nodes later.logs) (sym nodes_are) (nodes_after made)) slots_are refl refl held_before,
         )
 
     pub load_failed : (v : Node) (after : Farm) → plain_of v ≡ plain_of old → after.nodes.items ≡ set farm.nodes.items n v → after.clock ≡ farm.clock → after.loading ≡ farm.loading
         → after.slots.items ≡ farm.slots.items → Stands after s
-    load_failed v after same nodes_are clock_is loading_is slots_are = record {
-      reached = st.reached;
-      clock_is = clock_is ∙ st.clock_is;
-      loading_is = loading_is ∙ st.loading_is;
-      nodes_stand = subst (λ (ns : List Node). NodesStand ns s.nodes s.logs) (sym nodes_are) (nodes_kept s g farm.nodes.items st.nodes_stand n old v n_less (same ∙ ap plain_of there));
-      count = ap length slots_are ∙ st.count;
-      slots_stand = subst (λ (all : List Slot). (k : ℕ) (d : Slot) → 0 < k → k ≤ ACTOR_LIMIT → SlotStands (get_or all k d) k s) (sym slots_are) st.slots_stand;
-    }
+    load_failed v after same nodes_are clock_is loading_is slots_are = stands_kept farm s st after s st.reached (clock_is ∙ st.clock_is) (loading_is ∙ st.loading_is)
+        (subst (λ (ns : List Node). NodesStand ns s.nodes s.logs) (sym nodes_are) (nodes_kept s g farm.nodes.items st.nodes_stand n old v n_less (same ∙ ap plain_of there)))
+        slots_are refl refl (λ u b held. held)

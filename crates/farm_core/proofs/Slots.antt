@@ -11,17 +11,14 @@ pub aside_self : (t : TxnId) (s : State) → Aside t s s
 aside_self t s = record { nodes = refl; begins = refl; loading = refl; others = λ u other. refl; held = λ u a other held. held }
 
 meets_open : (s : State) (t : TxnId) (e : Event) → IsOf t e → Meets s e → (s.transactions t).is_open ≡ true
-meets_open s t (event.Load a bytes) own meets = absurd own
-meets_open s t (event.Begin u) own meets = absurd own
 meets_open s t (event.Read u a) own meets = ap (λ (v : TxnId). (s.transactions v).is_open) (sym own) ∙ meets.0.0
 meets_open s t (event.Alloc u n bytes) own meets = ap (λ (v : TxnId). (s.transactions v).is_open) (sym own) ∙ meets.0
 meets_open s t (event.Lock u a new) own meets = ap (λ (v : TxnId). (s.transactions v).is_open) (sym own) ∙ meets.0.0
 meets_open s t (event.Draw u) own meets = ap (λ (v : TxnId). (s.transactions v).is_open) (sym own) ∙ meets.0.0
 meets_open s t (event.Check u a) own meets = ap (λ (v : TxnId). (s.transactions v).is_open) (sym own) ∙ meets.0.0
 meets_open s t (event.Put u a) own meets = ap (λ (v : TxnId). (s.transactions v).is_open) (sym own) ∙ ⊎_elim (λ z. z.0) (λ z. z.0) meets.0
-meets_open s t (event.Unlock u a) own meets = ap (λ (v : TxnId). (s.transactions v).is_open) (sym own) ∙ ⊎_elim (λ z. z.0) (λ more. ⊎_elim (λ z. z.0) (λ z. z.0) more) meets.0
-meets_open s t (event.Shut u) own meets = absurd own
-meets_open s t (event.Collect n) own meets = absurd own
+meets_open s t (event.Unlock u a) own meets = ap (λ (v : TxnId). (s.transactions v).is_open) (sym own) ∙ ⊎_elim (λ z. z.0) (⊎_elim (λ z. z.0) (λ z. z.0)) meets.0
+meets_open s t e own meets = absurd own
 
 module _ (s : State) (r : Reached s) (t : TxnId) (slot : Slot) (nodes : List Node) (clock : ℕ) (at : SlotAt slot nodes clock t s) where
   g : Good s
