@@ -5,6 +5,7 @@ use Rattle.farm_core.proofs.Words.{Memory, TxnId, Node, Bytes, Event, Answer, Ac
 use Rattle.farm_core.proofs.Words.{CanAct, CanActAt, IsOf, meets_in}
 use Rattle.farm_core.specs.declared.event.Event.TheVariants as event
 use Rattle.farm_core.specs.declared.event.Answer.TheVariants as answer
+use Rattle.farm_core.proofs.Slots.{aside_self}
 use Rattle.farm_core.proofs.Conditions.{meets_iff}
 
 acted_clock : (z : Active) (nodes : List Node) (clock : ℕ) (t : TxnId) (s : State) (e : Event) (result : Result Answer Memory) → clock ≡ s.clock
@@ -64,6 +65,6 @@ module _ (x : Active) (nodes : List Node) (clock : ℕ) (t : TxnId) (e : Event) 
   lacks fails s r at own = (
     s,
     inr (λ meets. both_ways asked fails (is ∙ (meets_iff s r t x nodes at.standing e own).1 meets), (refl, refl)),
-    record { nodes = refl; begins = refl; loading = refl; others = λ u other. refl; held = λ u a other held. held },
+    aside_self t s,
     at,
   )

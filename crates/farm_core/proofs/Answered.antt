@@ -7,7 +7,7 @@ use Rattle.farm_node.proofs.Sound.{txn_self}
 use Rattle.farm_core.specs.declared.event.Event.TheVariants as event
 use Rattle.farm_core.specs.declared.event.Answer.TheVariants as answer
 use Rattle.farm_core.specs.Serial.{log_of, ValueStands, AnswerStands, EachAnswer, ReadsWhole}
-use Rattle.farm_core.proofs.Good.{Good, home_low}
+use Rattle.farm_core.proofs.Good.{Good, home_low, self_moved}
 use Rattle.farm_core.proofs.First.{good_fresh}
 use Rattle.farm_core.proofs.Phases.{started}
 use Rattle.farm_core.proofs.Events.{now_at}
@@ -30,14 +30,11 @@ record Entered (s : State) (t : TxnId) (a : Addr) (x : Answer) : Type 0 where
   going : s.loading ≡ false
 
 module _ (s : State) (g : Good s) (t : TxnId) (a : Addr) (x : Answer) (next : State) where
-  self : (change : Transaction → Transaction) (d : State) → ((moving t change d).transactions t) ≡ change (d.transactions t)
-  self change d = ap (λ (b : Bool). cond b (change (d.transactions t)) (d.transactions t)) (txn_self t)
-
   read_entered : (y : Result Found TxnId) → IsAt Reading s t → Reads s t a (s.transactions t).read_stamp y x next → IsFound x → Entered next t a x
   read_entered (Ok found) at acts shown =
       let e : Entry = entry.Read t.actor a (s.transactions t).read_stamp (Ok found) in
       let d : State = moving t (with_read a) (adding (home s a) e s) in
-      let moved : d.transactions t ≡ with_read a (s.transactions t) = self (with_read a) (adding (home s a) e s) in
+      let moved : d.transactions t ≡ with_read a (s.transactions t) = self_moved t (with_read a (s.transactions t)) s.transactions in
       let stage : (d.transactions t).stage ≡ Reading = ap (λ (z : Transaction). z.stage) moved ∙ at.1 in
       subst (λ (z : State). Entered z t a x) (sym acts.1) (record {
         found = found;
@@ -77,30 +74,26 @@ later_stands s d t a x grows g entered =
     (subst (λ (r : ℕ). ValueStands (log_of d a) a r (stamped_bytes entered.found)) (sym (grows.begun t entered.begun).1) stands))
 
 grows_runs : (events : List Event) (s : State) (answers : List Answer) (end : State) → Good s → s.loading ≡ false → Runs s events answers end → Grows s end
-grows_runs [] s [] end g going runs = subst (λ (z : State). Grows s z) (sym runs) (grows_self s going)
-grows_runs [] s (x ∷ xs) end g going runs = absurd runs
-grows_runs (e ∷ es) s [] end g going runs = absurd runs
+grows_runs [] s [] end g going runs = subst (Grows s) (sym runs) (grows_self s going)
 grows_runs (e ∷ es) s (x ∷ xs) end g going runs =
     let step = runs.1 in
     let first : Grows s step.0 = grows_step s going e x step.0 g step.1 in
     grows_twice s step.0 end first (grows_runs es step.0 xs end (good_step s e x step.0 g runs.0 step.1) first.started step.2)
+grows_runs events s answers end g going runs = absurd runs
 
 answer_stands : (s next end : State) (e : Event) (x : Answer) → Good s → Good end → Steps s e x next → (next.loading ≡ false → Grows next end) → AnswerStands end e x
 answer_stands s next end (event.Read t a) (answer.Value stamp bytes) g good step grows =
-    let entered : Entered next t a (answer.Value stamp bytes) = step_entered s g t a (answer.Value stamp bytes) next step tt in
-    later_stands next end t a (answer.Value stamp bytes) (grows entered.going) good entered
+    let entered = step_entered s g t a (answer.Value stamp bytes) next step tt in later_stands next end t a _ (grows entered.going) good entered
 answer_stands s next end (event.Read t a) (answer.Absent stamp) g good step grows =
-    let entered : Entered next t a (answer.Absent stamp) = step_entered s g t a (answer.Absent stamp) next step tt in
-    later_stands next end t a (answer.Absent stamp) (grows entered.going) good entered
+    let entered = step_entered s g t a (answer.Absent stamp) next step tt in later_stands next end t a _ (grows entered.going) good entered
 answer_stands s next end e x g good step grows = tt
 
 each_answer : (events : List Event) (s : State) (answers : List Answer) (end : State) → Good s → Good end → Runs s events answers end → EachAnswer (AnswerStands end) events answers
-each_answer [] s answers end g good runs = tt
-each_answer (e ∷ es) s [] end g good runs = tt
 each_answer (e ∷ es) s (x ∷ xs) end g good runs =
     let step = runs.1 in
     let next : Good step.0 = good_step s e x step.0 g runs.0 step.1 in
     (answer_stands s step.0 end e x g good step.1 (λ going. grows_runs es step.0 xs end next going step.2), each_answer es step.0 xs end next good step.2)
+each_answer events s answers end g good runs = tt
 
 pub reads_stand : (nodes : ℕ) (events : List Event) (answers : List Answer) (s : State) → 0 < nodes → nodes ≤ NODE_LIMIT → Runs (fresh nodes) events answers s → ReadsWhole events answers s
 reads_stand nodes events answers s low high runs =

@@ -1,10 +1,10 @@
 -- What one transaction's phase says of one address: of its lock there, and of its puts.
 use Rattle.std.proofs.Common.{◌≡◌, ◌≢◌, ◌⊎◌, ℕ, ◌<◌, ◌≤◌, max, cond, Bool, true, false, List, ◌∷◌, Option, Some, None, Ok, ◌||◌, sym, refl, ap, ◌∙◌, subst, inl, inr, ⊎_elim, arith}
 use Rattle.std.proofs.lemmas.Bool.{both_ways, or_cases, cond-true}
-use Rattle.farm_core.proofs.Words.{with_addr, Addr, TxnId, same_addr, newest, Hold, Entry, Cell, same_txn, is_gone, NodeState, HeldBy, Given, gives, Installed, Story}
+use Rattle.farm_core.proofs.Words.{cut, with_addr, Addr, TxnId, same_addr, newest, Hold, Entry, Cell, same_txn, NodeState, HeldBy, Given, gives, Installed, Story}
 use Rattle.farm_core.proofs.Words.{IsAmong, Stage, Refused, Transaction, unbegun, begun_at, drawn_at, with_locked, ended}
 use Rattle.farm_node.specs.declared.entry.Entry.TheVariants as entry
-use Rattle.farm_node.specs.Cell.{is_open as is_free}
+use Rattle.farm_node.specs.Cell as cell
 use Rattle.farm_node.proofs.Addresses.{and_left, addr_eq}
 use Rattle.farm_node.proofs.Sound.{txn_self}
 use Rattle.farm_node.proofs.Steps.{Keeps}
@@ -23,14 +23,10 @@ Holds t None = ⊥
 Holds t (Some c) = HasLock t c.lock
 
 pub holds_held : (p : NodeState) (t : TxnId) (a : Addr) → Holds t (p.cells a) → HeldBy p t a
-holds_held p t a holds = by (p.cells a) refl holds where
-  on : (c : Cell) (l : Option Hold) → p.cells a ≡ Some c → c.lock ≡ l → HasLock t l → HeldBy p t a
-  on c None is lock has = absurd has
-  on c (Some k) is lock has = (c, k, is, lock, has)
-
+holds_held p t a = by (p.cells a) refl where
   by : (c : Option Cell) → p.cells a ≡ c → Holds t c → HeldBy p t a
   by None is has = absurd has
-  by (Some c) is has = on c c.lock is refl has
+  by (Some c) is has = elim c.lock as (λ l. c.lock ≡ l → HasLock t l → HeldBy p t a) [ None ↦ λ lock none. absurd none | Some k ↦ λ lock own. (c, k, is, lock, own) ] refl has
 
 -- the transaction has put
 abbrev pub HasPut : TxnId → List Installed → Type 0
@@ -68,7 +64,7 @@ Allows t x e = Unit {0}
 no_lock : (t : TxnId) (l : Option Hold) → l ≡ None → HasLock t l → ⊥
 no_lock t l is has = subst (λ (z : Option Hold). HasLock t z) is has
 
-not_free : (t : TxnId) (l : Option Hold) → is_free l ≡ true → HasLock t l → ⊥
+not_free : (t : TxnId) (l : Option Hold) → cell.is_open l ≡ true → HasLock t l → ⊥
 not_free t None free has = has
 not_free t (Some k) free has = cc
 
@@ -81,9 +77,6 @@ holds_lock t u l k is own same = subst (λ (z : Option Hold). HasLock t z) (sym 
 
 given_own : (t u : TxnId) (g : Given) (h : Story) → u ≡ t → cond (same_txn u t) g (h.given t) ≡ g
 given_own t u g h same = cond-true (same_txn u t) g (h.given t) (ap (λ (z : TxnId). same_txn z t) same ∙ txn_self t)
-
-puts_more : (t : TxnId) (i : Installed) (puts : List Installed) → HasPut t puts → HasPut t (i ∷ puts)
-puts_more t i puts has = (has.0, inr has.1, has.2)
 
 module _ (t : TxnId) (x : Transaction) (a : Addr) where
   -- a lock that is given newly
@@ -117,27 +110,20 @@ module _ (t : TxnId) (x : Transaction) (a : Addr) where
   pub held : Keeps a (Allows t x) (Held t x a)
   held = record {
     aside = λ c past past' floor h le y. record { below = y.below; puts = y.puts; holding = y.holding; locked = y.locked };
-    looked = λ c s past floor h free y. record {
-      below = let b : newest c.versions ≤ c.bound = y.below in omega arith;
-      puts = y.puts;
-      holding = looked_holding c s h y.below free y.holding;
-      locked = y.locked;
-    };
+    looked = λ c s past floor h free y. let b : newest c.versions ≤ c.bound = y.below in
+        record { below = omega arith; puts = y.puts; holding = looked_holding c s h y.below free y.holding; locked = y.locked };
     made = λ u r v placed past floor h making y. record {
       below = omega arith;
       puts = y.puts;
-      holding = λ mine. given_holding u r placed.bound (Some v) h making.fits mine;
+      holding = given_holding u r placed.bound (Some v) h making.fits;
       locked = λ is going. ⊎_elim (λ none. absurd none) (λ put. inr put) (y.locked is going);
     };
     locked = λ u b r new given c past floor h locking y. record {
       below = y.below;
       puts = y.puts;
-      holding = λ mine. given_holding u r c.bound new h locking.fits mine;
+      holding = given_holding u r c.bound new h locking.fits;
       locked = λ is going. ⊎_elim
-          (λ (has : HasLock t c.lock). inl (⊎_elim
-          (λ (none : c.lock ≡ None). absurd (no_lock t c.lock none has))
-          (λ own. same_holder t u c.lock own.0 own.1 own.2 has)
-          locking.free))
+          (λ (has : HasLock t c.lock). inl (⊎_elim (λ none. absurd (no_lock t c.lock none has)) (λ own. same_holder t u c.lock own.0 own.1 own.2 has) locking.free))
           (λ put. inr put)
           (y.locked is going);
     };
@@ -153,10 +139,10 @@ module _ (t : TxnId) (x : Transaction) (a : Addr) where
           (λ more. y.puts i more mine)
           there;
       holding = λ none. absurd none;
-      locked = λ is going. ⊎_elim
-          (λ (has : HasLock t c.lock). inr (_, inl refl, same_holder t u c.lock ending.hold ending.lock ending.own has))
-          (λ put. inr (puts_more t _ h.puts put))
-          (y.locked is going);
+      locked = λ is going. inr (⊎_elim
+          (λ (has : HasLock t c.lock). (_, inl refl, same_holder t u c.lock ending.hold ending.lock ending.own has))
+          (λ put. (put.0, inr put.1, put.2))
+          (y.locked is going));
     };
     unlocked = λ u b c past floor h ending y. record {
       below = y.below;
@@ -170,18 +156,10 @@ module _ (t : TxnId) (x : Transaction) (a : Addr) where
       holding = tt;
       locked = λ is going. inr (ended_locked u c.lock ending.hold h.puts ending.lock ending.own ending.fits going (y.locked is going));
     };
-    cut = λ c past past' floor floor' h le more y. record {
-      below = subst (λ (n : ℕ). n ≤ c.bound) (sym (newest_cut floor' c.versions)) y.below;
-      puts = y.puts;
-      holding = y.holding;
-      locked = y.locked;
-    };
-    went = λ c past past' floor floor' h le more gone high y. record {
-      below = tt;
-      puts = y.puts;
-      holding = tt;
-      locked = λ is going. ⊎_elim (λ has. absurd (not_free t c.lock (and_left (is_free c.lock) (is_gone floor' c.versions) gone) has)) (λ put. inr put) (y.locked is going);
-    };
+    cut = λ c past past' floor floor' h le more y. let kept : newest (cut floor' c.versions) ≤ c.bound = subst (λ (n : ℕ). n ≤ c.bound) (sym (newest_cut floor' c.versions)) y.below in
+        record { below = kept; puts = y.puts; holding = y.holding; locked = y.locked };
+    went = λ c past past' floor floor' h le more gone high y. let free = not_free t c.lock (and_left (cell.is_open c.lock) (cell.is_gone floor' c.versions) gone) in
+        record { below = tt; puts = y.puts; holding = tt; locked = λ is going. ⊎_elim (λ has. absurd (free has)) (λ put. inr put) (y.locked is going) };
     none = λ past past' floor floor' h le more y. record { below = tt; puts = y.puts; holding = tt; locked = y.locked };
   }
 

@@ -87,20 +87,17 @@ module _ (clock : ℕ) where
   }
 
   pub low_after : (p : NodeState) (e : Entry) → Fits p e → LowEntry clock e → Low clock p → Low clock (after p e)
-  low_after p (entry.Made m) fits le low = low
   low_after p (entry.Open k c x) fits le low = record { cells = low.cells; past = low.past; floor = low.floor }
   low_after p (entry.Shut k) fits le low = record { cells = low.cells; past = low.past; floor = low.floor }
   low_after p (entry.Read k b s (Ok found)) fits le low = low_looked p b s le low
-  low_after p (entry.Read k b s (Err by)) fits le low = low
-  low_after p (entry.Alloc u r v placed) fits le low = record {
-    cells = λ a. low_set placed.at a _ p.cells (let is : placed.bound ≡ max p.past r = fits.3 in let past : p.past ≤ clock = low.past in (let x : placed.bound ≤ clock = omega arith in x)) (low.cells a);
-    past = low.past;
-    floor = low.floor;
-  }
-  low_after p (entry.Lock u b r new (Ok given)) fits le low = record { cells = λ a. low_set b a _ p.cells (low_locked u new (p.cells b) (low.cells b)) (low.cells a); past = low.past; floor = low.floor }
-  low_after p (entry.Lock u b r new (Err fault)) fits le low = low
+  low_after p (entry.Alloc u r v placed) fits le low =
+      let past : p.past ≤ clock = low.past in
+      let is : placed.bound ≡ max p.past r = fits.3 in
+      let bound : placed.bound ≤ clock = omega arith in
+      record { cells = λ a. low_set placed.at a _ p.cells bound (low.cells a); past = low.past; floor = low.floor }
+  low_after p (entry.Lock u b r new (Ok given)) fits le low =
+      record { cells = λ a. low_set b a _ p.cells (low_locked u new (p.cells b) (low.cells b)) (low.cells a); past = low.past; floor = low.floor }
   low_after p (entry.Check u b r w (Ok same)) fits le low = low_looked p b w le low
-  low_after p (entry.Check u b r w (Err fault)) fits le low = low
   low_after p (entry.Put u b w) fits le low = record { cells = λ a. low_set b a _ p.cells (low_installed w (p.cells b) le) (low.cells a); past = low.past; floor = low.floor }
   low_after p (entry.Unlock u b) fits le low = record {
     cells = λ a. low_set b a _ p.cells (low_released (p.cells b) (low.cells b)) (low.cells a);
@@ -112,3 +109,4 @@ module _ (clock : ℕ) where
     past = low_past_over (new_floor p f) p.past p.cells (places p.regions) low.past low.cells;
     floor = let x : p.floor ≤ clock = low.floor in let y : least_pin f p.pins p.actors ≤ clock = least_low f p.pins p.actors le in omega arith;
   }
+  low_after p e fits le low = low

@@ -25,9 +25,8 @@ good_step s e x next g range step = ⊎_elim (λ done. good_act s e x next g ran
 
 good_runs : (events : List Event) (s : State) (answers : List Answer) (end : State) → Good s → Runs s events answers end → Good end
 good_runs [] s [] end g runs = subst Good (sym runs) g
-good_runs [] s (x ∷ xs) end g runs = absurd runs
-good_runs (e ∷ es) s [] end g runs = absurd runs
 good_runs (e ∷ es) s (x ∷ xs) end g runs = let step = runs.1 in good_runs es step.0 xs end (good_step s e x step.0 g runs.0 step.1) step.2
+good_runs events s answers end g runs = absurd runs
 
 pub good_run : (nodes : ℕ) (events : List Event) (answers : List Answer) (s : State) → 0 < nodes → nodes ≤ NODE_LIMIT → Runs (fresh nodes) events answers s → Good s
 good_run nodes events answers s low high runs = good_runs events (fresh nodes) answers s (good_fresh nodes low high) runs

@@ -1,5 +1,6 @@
 -- The laws of a good state.
 use Rattle.std.proofs.Common.{◌≡◌, ℕ, ◌<◌, ◌≤◌, Bool, true, false, List, ◌∷◌, ◌++◌, Ok, sym, refl, ap, ◌∙◌, subst, inr, ⊎_elim, arith, append_assoc}
+use Rattle.std.proofs.lemmas.Bool.{both_ways, cases_Bool}
 use Rattle.farm_core.proofs.Words.{Addr, TxnId, Found, Entry, Lawful, Installed, story, value_at, stamped_bytes, Installing, State, home, node_of}
 use Rattle.farm_node.specs.declared.entry.Entry.TheVariants as entry
 use Rattle.farm_node.proofs.ReadsStay.{reads, pins}
@@ -57,13 +58,9 @@ module _ (s : State) (g : Good s) where
   steady : (t : TxnId) (a : Addr) (stamp : ℕ) → HasInstalled s t → HasTouched s t a → (s.transactions t).read_stamp ≤ stamp → stamp < (s.transactions t).write_stamp
       → value_at (log_of s a) a stamp ≡ value_at (log_of s a) a (s.transactions t).read_stamp
   steady t a stamp done touched low high = ⊎_elim
-      (λ read. by read ((s.transactions t).had_locked a) refl)
       (λ locked. steady_put t a stamp done (installs t a done locked) low high)
-      touched where
-        by : (s.transactions t).has_read a ≡ true → (b : Bool) → (s.transactions t).had_locked a ≡ b
-            → value_at (log_of s a) a stamp ≡ value_at (log_of s a) a (s.transactions t).read_stamp
-        by read true is = steady_put t a stamp done (installs t a done is) low high
-        by read false is = steady_same t a stamp (g.base.same t a ((g.base.sane t).all_same done.0 a read is)) low high
+      (λ free. steady_same t a stamp (g.base.same t a ((g.base.sane t).all_same done.0 a (⊎_elim (λ read. read) (λ locked. absurd (both_ways _ free locked)) touched) free)) low high)
+      (cases_Bool ((s.transactions t).had_locked a))
 
   pub serial : SerialOrder s
   serial = record {
