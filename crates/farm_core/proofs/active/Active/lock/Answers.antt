@@ -3,18 +3,14 @@ use Rattle.farm_core.proofs.Words.{Addr}
 use Rattle.farm_core.proofs.Acting.{pinned_here, read_low, may_lock_here, lock_given, lock_refused, lock_failed}
 use Rattle.farm_core.proofs.active.Active.lock.Goals as goal
 
-pub lock-requires-clause-pinned : goal.lock-requires-clause-pinned
-lock-requires-clause-pinned c =
+pub lock-requires : goal.lock-requires
+lock-requires c =
     let can = c.requires in
-    pinned_here can.0 can.1 c.args.transaction c.args.self.now c.args.nodes.now can.2 c.args.at c.home-node.result c.index-nodes-node.result c.home-node.ensures.is can.3.0.0
-
-pub lock-requires-clause-stamp : goal.lock-requires-clause-stamp
-lock-requires-clause-stamp c = let can = c.requires in read_low can.0 can.1 c.args.transaction c.args.self.now c.args.nodes.now can.2
-
-pub lock-requires-clause-may : goal.lock-requires-clause-may
-lock-requires-clause-may c =
-    let can = c.requires in
-    may_lock_here can.0 can.1 c.args.transaction c.args.self.now c.args.nodes.now can.2 c.args.at c.home-node.result c.index-nodes-node.result c.home-node.ensures.is can.3.1
+    record {
+      pinned = pinned_here can.0 can.1 c.args.transaction c.args.self.now c.args.nodes.now can.2 c.args.at c.home-node.result c.index-nodes-node.result c.home-node.ensures.is can.3.0.0;
+      stamp = read_low can.0 can.1 c.args.transaction c.args.self.now c.args.nodes.now can.2;
+      may = may_lock_here can.0 can.1 c.args.transaction c.args.self.now c.args.nodes.now can.2 c.args.at c.home-node.result c.index-nodes-node.result c.home-node.ensures.is can.3.1;
+    }
 
 pub returns-in-Ok : goal.returns-in-Ok
 returns-in-Ok c = λ s r at meets.

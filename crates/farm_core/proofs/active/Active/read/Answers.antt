@@ -9,13 +9,13 @@ insert-requires c =
     let can = c.requires in
     read_even can.0 can.1 c.args.transaction c.args.self.now c.args.nodes.now can.2 c.args.at can.3.0 can.3.1
 
-pub read-requires-clause-pinned : goal.read-requires-clause-pinned
-read-requires-clause-pinned c =
+pub read-requires : goal.read-requires
+read-requires c =
     let can = c.requires in
-    pinned_here can.0 can.1 c.args.transaction c.args.self.now c.args.nodes.now can.2 c.args.at c.home-node.result c.index-nodes-node.result c.home-node.ensures.is can.3.0.0
-
-pub read-requires-clause-stamp : goal.read-requires-clause-stamp
-read-requires-clause-stamp c = let can = c.requires in read_low can.0 can.1 c.args.transaction c.args.self.now c.args.nodes.now can.2
+    record {
+      pinned = pinned_here can.0 can.1 c.args.transaction c.args.self.now c.args.nodes.now can.2 c.args.at c.home-node.result c.index-nodes-node.result c.home-node.ensures.is can.3.0.0;
+      stamp = read_low can.0 can.1 c.args.transaction c.args.self.now c.args.nodes.now can.2;
+    }
 
 pub returns-in-Ok : goal.returns-in-Ok
 returns-in-Ok c = λ s r at meets.
