@@ -1,6 +1,6 @@
 -- Each event keeps a state good.
 use Rattle.std.proofs.Common.{◌≡◌, ◌⊎◌, ℕ, ◌+◌, ◌*◌, ◌%◌, ◌<◌, ◌≤◌, max, cond, Bool, true, false, ◌||◌, List, [], ◌∷◌, ◌++◌, Option, Some, Result, Ok, Err, sym, refl, ap, ◌∙◌, subst, inl, inr, ⊎_elim, arith}
-use Rattle.std.proofs.lemmas.Bool.{eq-eqb, lt-ltb}
+use Rattle.std.proofs.lemmas.Bool.{or_cases, eq-eqb, lt-ltb}
 use Rattle.std.proofs.lemmas.Nat.{mod-mul-add}
 use Rattle.farm_core.proofs.Words.{MayPut, COLLECTOR_ACTOR, LAST_STAMP, Addr, TxnId, same_addr, LeastFree, Hold, Found, Locked, CheckFault, Entry, Bytes, Cell}
 use Rattle.farm_core.proofs.Words.{read_answer, made_by, locked_by, lock_answer, check_answer, NodeState, occupancy, PinnedBy, MayLock, FitsLock, FitsCheck}
@@ -162,12 +162,10 @@ module _ (s : State) (g : Good s) where
         (sane_next s.clock s.begins t (s.transactions t) _ _ _ _ _ (with_addr a (s.transactions t).is_same) (g.base.sane t) (λ none. cc) (λ none. cc) (λ o. o) (g.base.sane t).write
         (λ reading. absurd (cc)) (g.base.sane t).drawn (λ installing. absurd (cc)))
         (λ going. going)
-        (λ b. marked b (adding (home s a) e s) here (after_it.base.same t b) (same_addr a b) refl)) where
-          marked : (b : Addr) (d : State) → SameIn (d.logs (home s a)) t a (s.transactions t).read_stamp (s.transactions t).write_stamp
-              → ((s.transactions t).is_same b ≡ true → SameIn (d.logs (home s b)) t b (s.transactions t).read_stamp (s.transactions t).write_stamp)
-              → (x : Bool) → same_addr a b ≡ x → (x || (s.transactions t).is_same b) ≡ true → SameIn (d.logs (home s b)) t b (s.transactions t).read_stamp (s.transactions t).write_stamp
-          marked b d here old true is same = subst (λ (z : Addr). SameIn (d.logs (home s z)) t z (s.transactions t).read_stamp (s.transactions t).write_stamp) (addr_eq a b is) here
-          marked b d here old false is same = old same
+        (λ b same. ⊎_elim
+        (λ is. subst (λ (z : Addr). SameIn ((adding (home s a) e s).logs (home s z)) t z (s.transactions t).read_stamp (s.transactions t).write_stamp) (addr_eq a b is) here)
+        (λ old. after_it.base.same t b old)
+        (or_cases (same_addr a b) ((s.transactions t).is_same b) same)))
     by (Err fault) due acts =
         subst Good (sym acts.1) (good_refused (adding (home s a) (entry.Check t a (s.transactions t).read_stamp (s.transactions t).write_stamp (Err fault)) s) (more (Err fault) due) t at.0)
 

@@ -34,11 +34,6 @@ ran_still first now later events i answers count ran still s st =
     let before = ran s st in
     (before.0, subst (λ (n : ℕ). Runs s (take n events) answers before.0) (sym count) before.1, still before.0 before.2)
 
-pub all_ran : (first now : Farm) (events : List Event) (i : ℕ) (answers : List Answer) → length answers ≡ i
-    → ((s : State) → Stands first s → RunsTo s (take i events) answers (Stands now))
-    → (s : State) → Stands first s → RunsTo s (take (length answers) events) answers (Stands now)
-all_ran first now events i answers count ran = ran_still first now now events i answers count ran (λ s st. st)
-
 -- the beginning
 
 plains_last : (nodes : List Node) (v : Node) (n : ℕ) → n ≡ length nodes → plains (nodes ++ v ∷ []) n ≡ plain_of v
@@ -84,9 +79,6 @@ pub record NewTo (number : ℕ) (slots : List Slot) : Type 0 where
   pub each : (k : ℕ) (d : Slot) → k < number → IsNew (get_or slots k d)
 
 -- the core
-
-pub take_whole : {X : Type 0} (xs : List X) (n : ℕ) → n ≡ length xs → take n xs ≡ xs
-take_whole xs n same = take_all n xs (omega arith)
 
 pub on_err : {T E : Type 0} (r : Result T E) (P : Type 0) → P → OnErr r P
 on_err (Ok x) P p = tt

@@ -245,6 +245,7 @@ impl Active {
     }
 
     // Draws its write stamp.
+    #[tactic(auto, using(crate::proofs::Acting::draw_spent, crate::proofs::Acting::clock_fits, crate::proofs::Acting::draw_stamp))]
     fn draw(&mut self, clock: &mut u64, transaction: TxnId) -> Answer
         requires { (nodes : List Node) × (s : State) × Reached s × AtClock self.old nodes clock.old transaction s × Meets s (event.Draw transaction) }
         ensures { (nodes : List Node) (s : State) → Reached s → AtClock self.old nodes clock.old transaction s → Meets s (event.Draw transaction) → Acted transaction s (event.Draw transaction) (Ok result) (AtClock self.new nodes clock.new transaction) }
@@ -362,6 +363,7 @@ pub fn home(at: Addr, nodes: usize) -> usize
 }
 
 // Whether the transaction has the lock of an address.
+#[tactic(auto, using(crate::proofs::NodeLists::fetched))]
 fn holds(nodes: &[Node], transaction: TxnId, at: Addr) -> bool
     requires { 0 < length nodes.now }
     ensures { result ≡ holds_at nodes.now transaction at }
@@ -387,6 +389,7 @@ fn any_held(locked: &mut Vec<Addr>, nodes: &[Node], transaction: TxnId) -> bool
 }
 
 // Whether the transaction, of this read stamp, may ask for the lock of an address.
+#[tactic(auto, using(crate::proofs::NodeLists::fetched))]
 fn may_lock(nodes: &[Node], transaction: TxnId, at: Addr, read_stamp: u64) -> bool
     requires { 0 < length nodes.now }
     ensures { result ≡ may_lock_at nodes.now transaction at read_stamp }
