@@ -28,8 +28,8 @@ pub data Stage : Type 0 where
   Installing : Stage
   Refused : Stage
 
--- A transaction is open from its begin to its shut. It reads at its read stamp and commits at its write stamp, which is 0
--- before its draw. It has read some addresses, had some locked at some time, and checked some that were the same
+-- A transaction is open from its begin to its shut. It reads at its read stamp and commits at its write stamp, which is
+-- 0 before its draw. It has read some addresses, had some locked at some time, and checked some that were the same
 pub record Transaction : Type 0 where
   pub stage : Stage
   pub is_open : Bool
@@ -40,7 +40,15 @@ pub record Transaction : Type 0 where
   pub is_same : Addr → Bool
 
 abbrev pub unbegun : Transaction
-unbegun = record { stage = Unbegun; is_open = false; read_stamp = 0; write_stamp = 0; has_read = λ a. false; had_locked = λ a. false; is_same = λ a. false }
+unbegun = record {
+  stage = Unbegun;
+  is_open = false;
+  read_stamp = 0;
+  write_stamp = 0;
+  has_read = λ a. false;
+  had_locked = λ a. false;
+  is_same = λ a. false;
+}
 
 abbrev pub begun_at : ℕ → Transaction
 begun_at stamp = record unbegun { stage = Reading; is_open = true; read_stamp = stamp }
@@ -150,7 +158,8 @@ AllSame x = (a : Addr) → x.has_read a ≡ true → x.had_locked a ≡ false �
 
 abbrev pub Meets : State → Event → Type 0
 Meets s (event.Load a bytes) = (s.loading ≡ true) × ((node_of s a).cells a ≡ None)
-Meets s (event.Begin t) = ((u : TxnId) → u.actor ≡ t.actor → (s.transactions u).is_open ≡ false) × (t.number ≡ s.begins t.actor + 1)
+Meets s (event.Begin t) =
+    ((u : TxnId) → u.actor ≡ t.actor → (s.transactions u).is_open ≡ false) × (t.number ≡ s.begins t.actor + 1)
 Meets s (event.Read t a) = IsAt Reading s t × (HoldsLockAt s t a → ⊥)
 Meets s (event.Alloc t n bytes) = IsAt Reading s t
 Meets s (event.Lock t a new) = IsAt Reading s t × MayLock (node_of s a) t a (s.transactions t).read_stamp
@@ -168,17 +177,21 @@ abbrev pub Gives : Answer → State → Answer → State → Type 0
 Gives due later told next = (told ≡ due) × (next ≡ later)
 
 abbrev pub found_answer : Found → Answer
-found_answer found = elim found.value as (λ _. Answer) [ None ↦ answer.Absent found.stamp | Some bytes ↦ answer.Value found.stamp bytes ]
+found_answer found =
+    elim found.value as (λ _. Answer) [ None ↦ answer.Absent found.stamp | Some bytes ↦ answer.Value found.stamp bytes ]
 
 -- what another holds leaves the transaction as it is
 abbrev pub Reads : State → TxnId → Addr → ℕ → Result Found TxnId → Answer → State → Type 0
-Reads s t a r (Ok found) = Gives (found_answer found) (moving t (with_read a) (adding (home s a) (entry.Read t.actor a r (Ok found)) s))
+Reads s t a r (Ok found) =
+    Gives (found_answer found) (moving t (with_read a) (adding (home s a) (entry.Read t.actor a r (Ok found)) s))
 Reads s t a r (Err by) = Gives (answer.Held by) (adding (home s a) (entry.Read t.actor a r (Err by)) s)
 
 abbrev pub Allocates : State → TxnId → ℕ → ℕ → Bytes → Answer → State → Type 0
 Allocates s t n r bytes told next =
     ((a : Addr) × LeastFree (occupancy (node_at s n)) a
-    × (let bound = max (node_at s n).past r in Gives (answer.Placed a bound) (moving t (with_locked a) (adding n (entry.Alloc t r bytes (record { at = a; bound = bound })) s)) told next))
+    × (let bound = max (node_at s n).past r in
+    let e = entry.Alloc t r bytes (record { at = a; bound = bound }) in
+    Gives (answer.Placed a bound) (moving t (with_locked a) (adding n e s)) told next))
     ⊎ (IsSpent (occupancy (node_at s n)) × Gives answer.Spent (moving t (in_stage Refused) s) told next)
 
 -- who is held, or sees a change, is refused
@@ -187,32 +200,50 @@ fault_answer (check_fault.Held by) = answer.Held by
 fault_answer (check_fault.Changed seen now) = answer.Changed seen now
 
 abbrev pub Locks : State → TxnId → Addr → ℕ → Option Bytes → Result Locked CheckFault → Answer → State → Type 0
-Locks s t a r new (Ok given) = Gives (answer.Locked given.seen given.bound) (moving t (with_locked a) (adding (home s a) (entry.Lock t a r new (Ok given)) s))
-Locks s t a r new (Err fault) = Gives (fault_answer fault) (moving t (in_stage Refused) (adding (home s a) (entry.Lock t a r new (Err fault)) s))
+Locks s t a r new (Ok given) =
+    Gives (answer.Locked given.seen given.bound)
+    (moving t (with_locked a) (adding (home s a) (entry.Lock t a r new (Ok given)) s))
+Locks s t a r new (Err fault) =
+    Gives (fault_answer fault) (moving t (in_stage Refused) (adding (home s a) (entry.Lock t a r new (Err fault)) s))
 
 -- the clock ends at 2^62 - 1
 abbrev pub Draws : State → TxnId → Answer → State → Type 0
 Draws s t told next =
-    ((s.clock < LAST_STAMP) × Gives (answer.Stamp (s.clock + 1)) (moving t (drawn_at (s.clock + 1)) (record s { clock = s.clock + 1 })) told next)
+    ((s.clock < LAST_STAMP) × (let stamp = s.clock + 1 in
+    Gives (answer.Stamp stamp) (moving t (drawn_at stamp) (record s { clock = stamp })) told next))
     ⊎ ((s.clock ≡ LAST_STAMP) × Gives answer.Spent (moving t (in_stage Refused) s) told next)
 
 abbrev pub Checks : State → TxnId → Addr → ℕ → ℕ → Result (Unit {0}) CheckFault → Answer → State → Type 0
-Checks s t a r w (Ok same) = Gives answer.Same (moving t (with_same a) (adding (home s a) (entry.Check t a r w (Ok same)) s))
-Checks s t a r w (Err fault) = Gives (fault_answer fault) (moving t (in_stage Refused) (adding (home s a) (entry.Check t a r w (Err fault)) s))
+Checks s t a r w (Ok same) =
+    Gives answer.Same (moving t (with_same a) (adding (home s a) (entry.Check t a r w (Ok same)) s))
+Checks s t a r w (Err fault) =
+    Gives (fault_answer fault) (moving t (in_stage Refused) (adding (home s a) (entry.Check t a r w (Err fault)) s))
 
 -- the collector's entries bear the actor 34, and its proposal is the clock
 abbrev pub Collects : State → ℕ → Collected → Answer → State → Type 0
-Collects s n removed = Gives (answer.Collected removed.floor removed.versions removed.objects) (loading_over (adding n (entry.Collect COLLECTOR_ACTOR s.clock removed) s))
+Collects s n removed =
+    Gives (answer.Collected removed.floor removed.versions removed.objects)
+    (loading_over (adding n (entry.Collect COLLECTOR_ACTOR s.clock removed) s))
 
 abbrev pub Acts : State → Event → Answer → State → Type 0
-Acts s (event.Load a bytes) = Gives answer.Loaded (record s { logs = set_log (home s a) (log_loaded a bytes (s.logs (home s a))) s.logs })
-Acts s (event.Begin t) = Gives (answer.At s.clock) (loading_over (moving t (λ x. begun_at s.clock) (counting_begin t.actor (adding_to_all (entry.Open t.actor s.clock s.clock) s))))
+Acts s (event.Load a bytes) =
+    Gives answer.Loaded (record s { logs = set_log (home s a) (log_loaded a bytes (s.logs (home s a))) s.logs })
+Acts s (event.Begin t) =
+    Gives (answer.At s.clock)
+    (loading_over
+    (moving t (λ x. begun_at s.clock)
+    (counting_begin t.actor (adding_to_all (entry.Open t.actor s.clock s.clock) s))))
 Acts s (event.Read t a) = let r = (s.transactions t).read_stamp in Reads s t a r (read_answer r ((node_of s a).cells a))
 Acts s (event.Alloc t n bytes) = Allocates s t n (s.transactions t).read_stamp bytes
-Acts s (event.Lock t a new) = let r = (s.transactions t).read_stamp in Locks s t a r new (lock_answer t r ((node_of s a).cells a))
+Acts s (event.Lock t a new) =
+    let r = (s.transactions t).read_stamp in Locks s t a r new (lock_answer t r ((node_of s a).cells a))
 Acts s (event.Draw t) = Draws s t
-Acts s (event.Check t a) = let x = s.transactions t in Checks s t a x.read_stamp x.write_stamp (check_answer x.read_stamp ((node_of s a).cells a))
-Acts s (event.Put t a) = Gives answer.Put (moving t (in_stage Installing) (adding (home s a) (entry.Put t a (s.transactions t).write_stamp) s))
+Acts s (event.Check t a) =
+    let x = s.transactions t in
+    Checks s t a x.read_stamp x.write_stamp (check_answer x.read_stamp ((node_of s a).cells a))
+Acts s (event.Put t a) =
+    Gives answer.Put
+    (moving t (in_stage Installing) (adding (home s a) (entry.Put t a (s.transactions t).write_stamp) s))
 Acts s (event.Unlock t a) = Gives answer.Unlocked (moving t (in_stage Refused) (adding (home s a) (entry.Unlock t a) s))
 Acts s (event.Shut t) = Gives answer.Shut (moving t ended (adding_to_all (entry.Shut t.actor) s))
 Acts s (event.Collect n) = Collects s n (collect_answer (node_at s n) s.clock)

@@ -29,7 +29,9 @@ use Rattle.farm_core.specs.ReadSets.{read_set, all_checked}
 
 -- some run leads there
 abbrev pub Reached : State → Type 0
-Reached s = (0 < s.nodes) × (s.nodes ≤ NODE_LIMIT) × ((events : List Event) × (answers : List Answer) × Runs (fresh s.nodes) events answers s)
+Reached s =
+    (0 < s.nodes) × (s.nodes ≤ NODE_LIMIT)
+    × ((events : List Event) × (answers : List Answer) × Runs (fresh s.nodes) events answers s)
 
 -- nodes
 
@@ -98,7 +100,9 @@ CanAct x nodes t e = (s : State) × Reached s × At x nodes t s × Meets s e
 
 -- in each such state the answer is due, and the transaction and the nodes stand for the state afterwards
 abbrev pub ActsOn : Active → List Node → TxnId → Event → Result Answer Memory → Active → List Node → Type 0
-ActsOn x nodes t e result y later_nodes = (s : State) → Reached s → At x nodes t s → Meets s e → Acted t s e result (λ later. At y later_nodes t later × (later.clock ≡ s.clock))
+ActsOn x nodes t e result y later_nodes =
+    (s : State) → Reached s → At x nodes t s → Meets s e
+    → Acted t s e result (λ later. At y later_nodes t later × (later.clock ≡ s.clock))
 
 -- an event was answered, or nothing came to pass
 abbrev pub Stepped : TxnId → State → Event → Result Answer Memory → (State → Type 0) → Type 0
@@ -151,7 +155,8 @@ meets_in x nodes t (event.Alloc u n bytes) = is_reading x.phase
 meets_in x nodes t (event.Lock u a new) = is_reading x.phase && may_lock_at nodes t a x.read_stamp
 meets_in x nodes t (event.Draw u) = is_reading x.phase && not (is_none x.locked.items)
 meets_in x nodes t (event.Check u a) = is_drawn x.phase && ((read_set x.reads).read a && not (holds_at nodes t a))
-meets_in x nodes t (event.Put u a) = (is_drawn x.phase || is_installing x.phase) && (all_checked x.reads && holds_at nodes t a)
+meets_in x nodes t (event.Put u a) =
+    (is_drawn x.phase || is_installing x.phase) && (all_checked x.reads && holds_at nodes t a)
 meets_in x nodes t (event.Unlock u a) = not (is_installing x.phase) && holds_at nodes t a
 meets_in x nodes t e = false
 
@@ -167,4 +172,5 @@ lock_fault (locking_fault.Changed seen now) = Ok (check_fault.Changed seen now)
 lock_fault locking_fault.Memory = Err (record {})
 
 abbrev pub CanActAt : Active → List Node → ℕ → Event → Type 0
-CanActAt x nodes clock e = (t : TxnId) × (s : State) × IsOf t e × Reached s × AtClock x nodes clock t s × Meets s e × InRange s.nodes e
+CanActAt x nodes clock e =
+    (t : TxnId) × (s : State) × IsOf t e × Reached s × AtClock x nodes clock t s × Meets s e × InRange s.nodes e

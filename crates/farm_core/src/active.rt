@@ -103,8 +103,10 @@ impl Active {
         transaction: TxnId,
         event: &Event,
     ) -> Result<Answer, Memory>
-        requires { (s : State) × Reached s × AtClock self.old nodes.old clock.old transaction s × IsOf transaction event.now × InRange s.nodes event.now }
-        ensures { (s : State) → Reached s → AtClock self.old nodes.old clock.old transaction s → IsOf transaction event.now → Stepped transaction s event.now result (AtClock self.new nodes.new clock.new transaction) }
+        requires { (s : State) × Reached s × AtClock self.old nodes.old clock.old transaction s × IsOf transaction event.now
+            × InRange s.nodes event.now }
+        ensures { (s : State) → Reached s → AtClock self.old nodes.old clock.old transaction s → IsOf transaction event.now
+            → Stepped transaction s event.now result (AtClock self.new nodes.new clock.new transaction) }
     {
         if self.meets(nodes, transaction, event) {
             self.act(nodes, clock, alloc, event)
@@ -116,7 +118,8 @@ impl Active {
     /// Whether the transaction holds a lock. It takes a logarithm for each lock that went since it was last asked.
     pub fn holds_lock(&mut self, nodes: &[Node], transaction: TxnId) -> bool
         requires { 0 < length nodes.now }
-        ensures { (s : State) → Reached s → At self.old nodes.now transaction s → (IsTrue result ↔ HoldsLock s transaction) × At self.new nodes.now transaction s }
+        ensures { (s : State) → Reached s → At self.old nodes.now transaction s → (IsTrue result ↔ HoldsLock s transaction)
+            × At self.new nodes.now transaction s }
     {
         any_held(&mut self.locked, nodes, transaction)
     }
@@ -130,7 +133,8 @@ impl Active {
         event: &Event,
     ) -> Result<Answer, Memory>
         requires { CanActAt self.old nodes.old clock.old event.now }
-        ensures { (t : TxnId) (s : State) → IsOf t event.now → Reached s → AtClock self.old nodes.old clock.old t s → Meets s event.now → Acted t s event.now result (AtClock self.new nodes.new clock.new t) }
+        ensures { (t : TxnId) (s : State) → IsOf t event.now → Reached s → AtClock self.old nodes.old clock.old t s
+            → Meets s event.now → Acted t s event.now result (AtClock self.new nodes.new clock.new t) }
     {
         match event {
             Event::Read { t, at } => self.read(nodes, alloc, *t, *at),
@@ -236,7 +240,8 @@ impl Active {
     // It has the lock of an address.
     fn take(&mut self, at: Addr)
         requires { vec_len self.old.locked < vec_capacity self.old.locked }
-        ensures same { (self.new.phase ≡ self.old.phase) × (self.new.read_stamp ≡ self.old.read_stamp) × (self.new.write_stamp ≡ self.old.write_stamp) }
+        ensures same { (self.new.phase ≡ self.old.phase) × (self.new.read_stamp ≡ self.old.read_stamp)
+            × (self.new.write_stamp ≡ self.old.write_stamp) }
         ensures reads { read_set self.new.reads ≡ checked at (read_set self.old.reads) }
         ensures locked { self.new.locked.items ≡ self.old.locked.items ++ at ∷ [] }
     {
@@ -247,8 +252,12 @@ impl Active {
     // Draws its write stamp.
     #[tactic(auto, using(crate::proofs::Acting::draw_spent, crate::proofs::Acting::clock_fits, crate::proofs::Acting::draw_stamp))]
     fn draw(&mut self, clock: &mut u64, transaction: TxnId) -> Answer
-        requires { (nodes : List Node) × (s : State) × Reached s × AtClock self.old nodes clock.old transaction s × Meets s (event.Draw transaction) }
-        ensures { (nodes : List Node) (s : State) → Reached s → AtClock self.old nodes clock.old transaction s → Meets s (event.Draw transaction) → Acted transaction s (event.Draw transaction) (Ok result) (AtClock self.new nodes clock.new transaction) }
+        requires { (nodes : List Node) × (s : State) × Reached s × AtClock self.old nodes clock.old transaction s
+            × Meets s (event.Draw transaction) }
+        ensures { (nodes : List Node) (s : State) → Reached s → AtClock self.old nodes clock.old transaction s
+            → Meets s (event.Draw transaction)
+            → Acted transaction s (event.Draw transaction) (Ok result)
+            (AtClock self.new nodes clock.new transaction) }
     {
         if *clock == LAST_STAMP {
             self.phase = Phase::Refused;
@@ -375,7 +384,8 @@ fn holds(nodes: &[Node], transaction: TxnId, at: Addr) -> bool
 fn any_held(locked: &mut Vec<Addr>, nodes: &[Node], transaction: TxnId) -> bool
     requires { 0 < length nodes.now }
     ensures fewer { (a : Addr) → in_list a locked.new.items ≡ true → in_list a locked.old.items ≡ true }
-    ensures held { (a : Addr) → holds_at nodes.now transaction a ≡ true → in_list a locked.old.items ≡ true → in_list a locked.new.items ≡ true }
+    ensures held { (a : Addr) → holds_at nodes.now transaction a ≡ true → in_list a locked.old.items ≡ true
+        → in_list a locked.new.items ≡ true }
     ensures some { IsTrue result → (a : Addr) × (holds_at nodes.now transaction a ≡ true) }
     ensures none { result ≡ false → locked.new.items ≡ [] }
 {

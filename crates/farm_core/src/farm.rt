@@ -32,8 +32,8 @@ pub struct Farm {
 }
 
 impl Slot {
-    // Answers an event of a transaction, but its end. `Memory` comes for want of memory alone, and then nothing has come
-    // to pass.
+    // Answers an event of a transaction, but its end. `Memory` comes for want of memory alone, and then nothing has
+    // come to pass.
     fn advance(
         &mut self,
         nodes: &mut [Node],
@@ -42,8 +42,10 @@ impl Slot {
         transaction: TxnId,
         event: &Event,
     ) -> Result<Answer, Memory>
-        requires { (s : State) × Reached s × SlotAt self.old nodes.old clock.old transaction s × IsOf transaction event.now × InRange s.nodes event.now }
-        ensures { (s : State) → Reached s → SlotAt self.old nodes.old clock.old transaction s → IsOf transaction event.now → Stepped transaction s event.now result (SlotAt self.new nodes.new clock.new transaction) }
+        requires { (s : State) × Reached s × SlotAt self.old nodes.old clock.old transaction s × IsOf transaction event.now
+            × InRange s.nodes event.now }
+        ensures { (s : State) → Reached s → SlotAt self.old nodes.old clock.old transaction s → IsOf transaction event.now
+            → Stepped transaction s event.now result (SlotAt self.new nodes.new clock.new transaction) }
     {
         if self.begins != transaction.number {
             return Ok(Answer::No);
@@ -96,8 +98,8 @@ impl Farm {
         })
     }
 
-    /// Answers one event after another, behind no answer yet, until memory is wanting. `Memory` comes for want of memory
-    /// alone; then the event behind the last answer has not come to pass.
+    /// Answers one event after another, behind no answer yet, until memory is wanting. `Memory` comes for want of
+    /// memory alone; then the event behind the last answer has not come to pass.
     pub fn run(
         &mut self,
         alloc: Global,
@@ -108,7 +110,8 @@ impl Farm {
         requires range { All (InRange (length self.old.nodes.items)) events.now }
         requires empty { answers.old.items ≡ [] }
         requires room { length events.now ≤ vec_capacity answers.old }
-        ensures ran { (s : State) → Stands self.old s → RunsTo s (take (length answers.new.items) events.now) answers.new.items (Stands self.new) }
+        ensures ran { (s : State) → Stands self.old s
+            → RunsTo s (take (length answers.new.items) events.now) answers.new.items (Stands self.new) }
         ensures all { OnOk result (length answers.new.items ≡ length events.now) }
         ensures some { length answers.new.items ≤ length events.now }
         ensures nodes { length self.new.nodes.items ≡ length self.old.nodes.items }
@@ -219,7 +222,8 @@ impl Farm {
     fn load(&mut self, alloc: Global, at: Addr, bytes: &Bin) -> Result<Answer, Memory>
         requires addr { IsAddr (length self.old.nodes.items) at }
         requires known { (s : State) × Stands self.old s }
-        ensures steps { (s : State) → Stands self.old s → IsObject bytes.now → StepsTo s (event.Load at bytes.now) result (Stands self.new) }
+        ensures steps { (s : State) → Stands self.old s → IsObject bytes.now
+            → StepsTo s (event.Load at bytes.now) result (Stands self.new) }
         ensures nodes { length self.new.nodes.items ≡ length self.old.nodes.items }
     {
         if !self.loading {
@@ -267,7 +271,8 @@ fn new_slots(alloc: Global) -> Result<Vec<Slot>, Memory>
 // Pins each node for an actor at the stamp, which is at least each floor.
 fn open_all(nodes: &mut [Node], actor: u32, stamp: u64)
     requires actor { (0 < actor) × IsStamp stamp }
-    requires free { (n : ℕ) → n < length nodes.old → (actor ≤ (plains nodes.old n).actors) × ((plains nodes.old n).pins actor ≡ None) }
+    requires free { (n : ℕ) → n < length nodes.old → (actor ≤ (plains nodes.old n).actors)
+        × ((plains nodes.old n).pins actor ≡ None) }
     ensures { AddsEach (λ p. entry.Open actor stamp (max stamp p.floor)) nodes.old nodes.new }
 {
     for node in nodes.iter_mut() {
