@@ -13,18 +13,20 @@ acted_clock : (z : Active) (nodes : List Node) (clock : ℕ) (t : TxnId) (s : St
 acted_clock z nodes clock t s e (Ok x) is acted = (acted.0, acted.1, acted.2, record { standing = acted.3.0; clock_is = is ∙ sym acted.3.1 })
 acted_clock z nodes clock t s e (Err m) is acted = record { standing = acted.0; clock_is = is }
 
-pub acted_is : (x z : Active) (nodes after : List Node) (clock : ℕ) (t u : TxnId) (e f : Event) (result : Result Answer Memory) → e ≡ f → u ≡ t → ActsOn x nodes u f result z after
-    → (s : State) → Reached s → AtClock x nodes clock t s → Meets s e → Acted t s e result (AtClock z after clock t)
-acted_is x z nodes after clock t u e f result is own acts s r at meets =
-    let moved : ActsOn x nodes t e result z after = subst (λ (w : TxnId × Event). ActsOn x nodes w.0 w.1 result z after) (λ i. (own i, sym is i)) acts in
+pub acted_is : (x z : Active) (nodes after : List Node) (clock : ℕ) (u : TxnId) (e f : Event) (result : Result Answer Memory) → e ≡ f → ((t : TxnId) → IsOf t f → u ≡ t)
+    → ActsOn x nodes u f result z after → (t : TxnId) (s : State) → IsOf t e → Reached s → AtClock x nodes clock t s → Meets s e → Acted t s e result (AtClock z after clock t)
+acted_is x z nodes after clock u e f result is one acts t s own r at meets =
+    let same : u ≡ t = one t (subst (IsOf t) is own) in
+    let moved : ActsOn x nodes t e result z after = subst (λ (w : TxnId × Event). ActsOn x nodes w.0 w.1 result z after) (λ i. (same i, sym is i)) acts in
     acted_clock z after clock t s e result at.clock_is (moved s r at.standing meets)
 
 -- the same for a draw, which moves the clock
-pub drawn_is : (x z : Active) (nodes : List Node) (clock later_clock : ℕ) (t u : TxnId) (e : Event) (result : Result Answer Memory) → e ≡ event.Draw u → u ≡ t
+pub drawn_is : (x z : Active) (nodes : List Node) (clock later_clock : ℕ) (u : TxnId) (e : Event) (result : Result Answer Memory) → e ≡ event.Draw u
     → ((all : List Node) (s : State) → Reached s → AtClock x all clock u s → Meets s (event.Draw u) → Acted u s (event.Draw u) result (AtClock z all later_clock u))
-    → (s : State) → Reached s → AtClock x nodes clock t s → Meets s e → Acted t s e result (AtClock z nodes later_clock t)
-drawn_is x z nodes clock later_clock t u e result is own acts s r at meets =
-    subst (λ (w : TxnId × Event). AtClock x nodes clock w.0 s → Meets s w.1 → Acted w.0 s w.1 result (AtClock z nodes later_clock w.0)) (λ i. (own i, sym is i)) (acts nodes s r) at meets
+    → (t : TxnId) (s : State) → IsOf t e → Reached s → AtClock x nodes clock t s → Meets s e → Acted t s e result (AtClock z nodes later_clock t)
+drawn_is x z nodes clock later_clock u e result is acts t s own r at meets =
+    let same : u ≡ t = subst (IsOf t) is own in
+    subst (λ (w : TxnId × Event). AtClock x nodes clock w.0 s → Meets s w.1 → Acted w.0 s w.1 result (AtClock z nodes later_clock w.0)) (λ i. (same i, sym is i)) (acts nodes s r) at meets
 
 pub can_act : (x : Active) (nodes : List Node) (clock : ℕ) (u : TxnId) (e f : Event) → CanActAt x nodes clock e → e ≡ f → ((t : TxnId) → IsOf t f → u ≡ t) → CanAct x nodes u f
 can_act x nodes clock u e f can is own =

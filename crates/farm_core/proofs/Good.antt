@@ -196,7 +196,7 @@ module _ (s : State) (t : TxnId) (change : Transaction → Transaction) where
 
 -- a later clock, more begins, and the end of loading
 
-base_counts : (s : State) (clock : ℕ) (begins : ℕ → ℕ) → Base s → s.clock ≤ clock → IsStamp clock → ((k : ℕ) → s.begins k ≤ begins k)
+pub base_counts : (s : State) (clock : ℕ) (begins : ℕ → ℕ) → Base s → s.clock ≤ clock → IsStamp clock → ((k : ℕ) → s.begins k ≤ begins k)
     → ((t : TxnId) → (s.transactions t).is_open ≡ true → t.number ≡ begins t.actor) → Base (record s { clock = clock; begins = begins })
 base_counts s clock begins b le stamp more current = record {
   count = b.count;
@@ -218,9 +218,6 @@ base_counts s clock begins b le stamp more current = record {
   apart = b.apart;
   first = b.first;
 }
-
-pub base_ticking : (s : State) → Base s → IsStamp (s.clock + 1) → Base (record s { clock = s.clock + 1 })
-base_ticking s b stamp = base_counts s (s.clock + 1) s.begins b (omega arith) stamp (λ k. omega arith) (λ t. (b.sane t).current)
 
 pub base_counting : (s : State) (k : ℕ) → Base s → NoneOpen s k → Base (counting_begin k s)
 base_counting s k b none = base_counts s s.clock (counting_begin k s).begins b (omega arith) b.clock.1

@@ -4,7 +4,7 @@ use Rattle.std.proofs.lemmas.Bool.{both_ways, false_from_ne_true}
 use Rattle.farm_core.proofs.Words.{ACTOR_LIMIT, Addr, TxnId, IsStamp, Stage, Unbegun, Reading, Drawn, Installing, Refused, Transaction, begun_at, in_stage}
 use Rattle.farm_core.proofs.Words.{drawn_at, with_addr, with_locked, State, home, node_at, moving}
 use Rattle.farm_core.proofs.Held.{Holds, held_staged, held_locked, held_drawn}
-use Rattle.farm_core.proofs.Good.{Sane, SameIn, Good, home_low, base_ticking, good_moving}
+use Rattle.farm_core.proofs.Good.{Sane, SameIn, Good, home_low, base_counts, good_moving}
 
 -- what a transaction still has to show in its next stage
 pub sane_next : (clock : ℕ) (begins : ℕ → ℕ) (t : TxnId) (x : Transaction) (stage : Stage) (is_open : Bool) (w : ℕ) (reads locks sames : Addr → Bool) → Sane clock begins t x
@@ -91,7 +91,7 @@ module _ (s : State) (g : Good s) where
       (λ a same. let none : (s.transactions t).is_same a ≡ false = undrawn.1 a in absurd (cc))
       (λ u drawn is. let low : (s.transactions u).write_stamp ≤ s.clock = (g.base.sane u).write in absurd (omega arith)) where
         ticked : Good (record s { clock = s.clock + 1 })
-        ticked = record { base = base_ticking s g.base stamp; pins = record { open_at = g.pins.open_at; none_at = g.pins.none_at } }
+        ticked = record { base = base_counts s (s.clock + 1) s.begins g.base (omega arith) stamp (λ k. omega arith) (λ u. (g.base.sane u).current); pins = record { open_at = g.pins.open_at; none_at = g.pins.none_at } }
 
         undrawn : ((s.transactions t).write_stamp ≡ 0) × ((a : Addr) → (s.transactions t).is_same a ≡ false)
         undrawn = (g.base.sane t).undrawn reading

@@ -3,14 +3,14 @@ use Rattle.farm_core.proofs.Words.{Addr}
 use Rattle.farm_core.proofs.Acting.{pinned_at, read_low, alloc_placed, alloc_spent, alloc_failed}
 use Rattle.farm_core.proofs.active.Active.alloc.Goals as goal
 
-pub alloc-requires-clause-pinned : goal.alloc-requires-clause-pinned
-alloc-requires-clause-pinned c =
+pub alloc-requires : goal.alloc-requires
+alloc-requires c =
     let can = c.requires.can in
     let number : length c.args.nodes.now ≡ can.0.nodes = can.2.nodes_stand.number in
-    pinned_at can.0 can.1 c.args.transaction c.args.self.now c.args.nodes.now can.2 c.args.node c.index-nodes-node.result (omega arith) can.3.0
-
-pub alloc-requires-clause-stamp : goal.alloc-requires-clause-stamp
-alloc-requires-clause-stamp c = let can = c.requires.can in read_low can.0 can.1 c.args.transaction c.args.self.now c.args.nodes.now can.2
+    record {
+      pinned = pinned_at can.0 can.1 c.args.transaction c.args.self.now c.args.nodes.now can.2 c.args.node c.index-nodes-node.result (omega arith) can.3.0;
+      stamp = read_low can.0 can.1 c.args.transaction c.args.self.now c.args.nodes.now can.2;
+    }
 
 pub returns-in-Ok : goal.returns-in-Ok
 returns-in-Ok c = λ s r at meets.

@@ -7,14 +7,14 @@ pub returns-then-not-may_begin-clause-steps : goal.returns-then-not-may_begin-cl
 returns-then-not-may_begin-clause-steps c = λ s st.
     begin_no c.args.self.now s st c.args.transaction c.requires.actor c.index.result.now c.index.ensures (sym c.may_begin.ensures ∙ c.if-not-may_begin.true)
 
-pub open_all-requires-clause-actor : goal.open_all-requires-clause-actor
-open_all-requires-clause-actor c = let known = c.requires.known in (c.requires.actor.0, clock_low c.args.self.now known.0 known.1 c.args.transaction c.requires.actor)
-
-pub open_all-requires-clause-free : goal.open_all-requires-clause-free
-open_all-requires-clause-free c =
+pub open_all-requires : goal.open_all-requires
+open_all-requires c =
     let known = c.requires.known in
     let meets = begin_meets c.args.self.now known.0 known.1 c.args.transaction c.requires.actor c.index.result.now c.index.ensures (sym c.may_begin.ensures ∙ c.if-not-may_begin.false) in
-    begin_free c.args.self.now known.0 known.1 c.args.transaction c.requires.actor meets.0 c.deref_mut.result.now c.deref_mut.ensures.value
+    record {
+      actor = (c.requires.actor.0, clock_low c.args.self.now known.0 known.1 c.args.transaction c.requires.actor);
+      free = begin_free c.args.self.now known.0 known.1 c.args.transaction c.requires.actor meets.0 c.deref_mut.result.now c.deref_mut.ensures.value;
+    }
 
 pub returns-clause-steps : goal.returns-clause-steps
 returns-clause-steps c = λ s st.
