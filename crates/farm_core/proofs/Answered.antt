@@ -1,9 +1,8 @@
 -- What a read was answered is in its node's list, and stands.
-use Rattle.std.proofs.Common.{◌≡◌, ◌≢◌, ℕ, ◌<◌, ◌≤◌, ◌%◌, Bool, false, cond, List, [], ◌∷◌, ◌++◌, Option, Some, None, Result, Ok, Err, sym, ap, ◌∙◌, subst, ⊎_elim, append_assoc}
+use Rattle.std.proofs.Common.{◌≡◌, ◌≢◌, ℕ, ◌<◌, ◌≤◌, ◌%◌, false, List, [], ◌∷◌, ◌++◌, Option, Some, None, Result, Ok, Err, sym, ap, ◌∙◌, subst, ⊎_elim, append_assoc}
 use Rattle.farm_core.proofs.Words.{NODE_LIMIT, Addr, TxnId, Found, Entry, Bytes, read_answer, stamped_bytes, Event, Answer, Unbegun, Reading, Transaction}
 use Rattle.farm_core.proofs.Words.{State, home, node_of, adding, moving, with_read, IsAt, found_answer, Reads, Steps, Runs, fresh}
 use Rattle.farm_node.specs.declared.entry.Entry.TheVariants as entry
-use Rattle.farm_node.proofs.Sound.{txn_self}
 use Rattle.farm_core.specs.declared.event.Event.TheVariants as event
 use Rattle.farm_core.specs.declared.event.Answer.TheVariants as answer
 use Rattle.farm_core.specs.Serial.{log_of, ValueStands, AnswerStands, EachAnswer, ReadsWhole}

@@ -1,6 +1,6 @@
 -- A begin.
-use Rattle.std.proofs.Common.{◌≡◌, ℕ, ◌+◌, ◌<◌, ◌≤◌, max, eqb, cond, Bool, true, false, not, is_some, List, length, get_or, Option, Some, None, Ok, sym, refl, ap, ◌∙◌, subst, inl, inr, arith}
-use Rattle.std.proofs.Math.ListN.{set, length-set}
+use Rattle.std.proofs.Common.{◌≡◌, ℕ, ◌+◌, ◌<◌, ◌≤◌, max, eqb, true, false, not, is_some, List, length, get_or, Option, Some, None, Ok, sym, refl, ap, ◌∙◌, subst, inl, inr, arith}
+use Rattle.std.proofs.Math.ListN.{set}
 use Rattle.std.proofs.lemmas.Bool.{and_parts, and_from, both_ways, cond-true, cond-false, eqb-true, eq-eqb, ne_eqb}
 use Rattle.farm_core.proofs.Words.{ACTOR_LIMIT, Addr, TxnId, Hold, Node, Entry, Cell, NodeState, Adds, IsStamp, story, Active, Slot, Farm, begun_at, State}
 use Rattle.farm_core.proofs.Words.{home, node_at, adding_to_all, moving, counting_begin, loading_over, HoldsLockAt, Meets, IsActor, plains, NodesStand}
@@ -9,7 +9,7 @@ use Rattle.farm_node.specs.declared.entry.Entry.TheVariants as entry
 use Rattle.farm_core.specs.declared.event.Event.TheVariants as event
 use Rattle.farm_core.specs.declared.event.Answer.TheVariants as answer
 use Rattle.farm_core.proofs.Held.{HasLock, HoldingCell}
-use Rattle.farm_core.proofs.Good.{Good, NoneOpen, another, self_moved, other_stays}
+use Rattle.farm_core.proofs.Good.{Good, NoneOpen, self_moved, other_stays}
 use Rattle.farm_core.proofs.Changes.{good}
 use Rattle.farm_core.proofs.Farming.{reached_more, slot_of, stands_set, each_added, held_each}
 

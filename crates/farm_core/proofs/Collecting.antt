@@ -1,8 +1,8 @@
 -- A collection.
-use Rattle.std.proofs.Common.{◌≡◌, ℕ, ◌<◌, ◌≤◌, false, List, length, get_or, Ok, sym, refl, ap, ◌∙◌, subst, inl, ⊎_elim, arith}
+use Rattle.std.proofs.Common.{◌≡◌, ℕ, ◌<◌, false, List, length, get_or, Ok, sym, refl, ap, ◌∙◌, subst, inl, ⊎_elim, arith}
 use Rattle.std.proofs.Math.ListN.{set}
-use Rattle.farm_core.proofs.Words.{ACTOR_LIMIT, COLLECTOR_ACTOR, Addr, TxnId, Node, Collected, Entry, Adds, collect_answer, IsStamp, plain_of, Slot, Farm}
-use Rattle.farm_core.proofs.Words.{State, node_at, adding, loading_over, HoldsLockAt, Collects, NodesStand, SlotStands, Stands, StepsTo}
+use Rattle.farm_core.proofs.Words.{COLLECTOR_ACTOR, Node, Collected, Entry, Adds, collect_answer, IsStamp, plain_of, Farm}
+use Rattle.farm_core.proofs.Words.{State, node_at, adding, loading_over, Collects, NodesStand, Stands, StepsTo}
 use Rattle.farm_node.specs.declared.entry.Entry.TheVariants as entry
 use Rattle.farm_core.specs.declared.event.Event.TheVariants as event
 use Rattle.farm_core.specs.declared.event.Answer.TheVariants as answer

@@ -1,7 +1,7 @@
 -- A state and an event have one answer.
-use Rattle.std.proofs.Common.{◌≡◌, ◌⊎◌, inl, inr, ◌∙◌, ℕ, ◌+◌, ◌*◌, ◌<◌, List, [], ◌∷◌, Option, Result, Ok, Err, true, false, refl, sym, subst, arith, ⊎_elim}
+use Rattle.std.proofs.Common.{◌≡◌, ◌⊎◌, inl, inr, ◌∙◌, ℕ, ◌+◌, ◌*◌, ◌<◌, List, [], ◌∷◌, Ok, Err, true, false, refl, sym, subst, arith, ⊎_elim}
 use Rattle.std.specs.Prelude.{max}
-use Rattle.farm_core.proofs.Words.{LAST_STAMP, Addr, TxnId, Occupancy, LeastOfMade, FirstOfNext, LeastFree, IsSpent, IsAmong, Found, Locked, CheckFault, Bytes}
+use Rattle.farm_core.proofs.Words.{LAST_STAMP, Addr, TxnId, Occupancy, LeastOfMade, FirstOfNext, LeastFree, IsAmong, Bytes}
 use Rattle.farm_core.proofs.Words.{read_answer, lock_answer, check_answer, occupancy, Event, Answer, State, node_at, node_of, with_locked, adding, moving}
 use Rattle.farm_core.proofs.Words.{Gives, Reads, Allocates, Locks, Draws, Checks, Acts, Steps, Runs}
 use Rattle.farm_node.specs.declared.entry.Entry.TheVariants as entry

@@ -1,15 +1,15 @@
 -- The end of a transaction.
-use Rattle.std.proofs.Common.{◌≡◌, ◌≢◌, ◌↔◌, ℕ, ◌-◌, ◌<◌, ◌≤◌, option_to_list, cond, Bool, true, false, List, [], ◌∷◌, ◌++◌, length, get_or, Option, Some, None, Ok, IsTrue, sym, refl, ap, ◌∙◌, subst, inl, inr, ⊎_elim, arith}
-use Rattle.std.proofs.Math.ListN.{set, length-set}
+use Rattle.std.proofs.Common.{◌≡◌, ◌≢◌, ◌↔◌, ℕ, ◌-◌, ◌<◌, option_to_list, Bool, true, false, List, [], ◌∷◌, ◌++◌, length, get_or, Option, Some, None, Ok, IsTrue, sym, refl, ap, ◌∙◌, subst, inl, inr, ⊎_elim, arith}
+use Rattle.std.proofs.Math.ListN.{set}
 use Rattle.std.proofs.lemmas.Bool.{both_ways, cond_both, false_from_ne_true}
-use Rattle.farm_core.proofs.Words.{ACTOR_LIMIT, Addr, TxnId, Node, Entry, same_txn, NodeState, Adds, Active, Slot, Farm, ended, State, adding_to_all, moving}
+use Rattle.farm_core.proofs.Words.{Addr, TxnId, Node, Entry, same_txn, NodeState, Adds, Active, Slot, Farm, ended, State, adding_to_all, moving}
 use Rattle.farm_core.proofs.Words.{HoldsLock, Meets, IsActor, read_set, Reached, plains, NodesStand, in_list, stage_of, At, AtClock, holds_at}
-use Rattle.farm_core.proofs.Words.{OpenStands, SlotStands, SlotAt, Stands, StepsTo, AddsEach, Shuts}
+use Rattle.farm_core.proofs.Words.{OpenStands, SlotAt, Stands, StepsTo, AddsEach, Shuts}
 use Rattle.farm_node.specs.declared.entry.Entry.TheVariants as entry
 use Rattle.farm_node.proofs.Sound.{txn_self}
 use Rattle.farm_core.specs.declared.event.Event.TheVariants as event
 use Rattle.farm_core.specs.declared.event.Answer.TheVariants as answer
-use Rattle.farm_core.proofs.Good.{Good, another, other_stays}
+use Rattle.farm_core.proofs.Good.{Good, other_stays}
 use Rattle.farm_core.proofs.Opens.{sole}
 use Rattle.farm_core.proofs.Changes.{good}
 use Rattle.farm_core.proofs.Actives.{in_front, front_or_last, open_like}

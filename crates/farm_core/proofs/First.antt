@@ -1,5 +1,5 @@
 -- The states before the first begin and the first collect: each list is its first entry.
-use Rattle.std.proofs.Common.{◌≡◌, ℕ, ◌+◌, ◌*◌, ◌/◌, ◌%◌, ◌<◌, ◌≤◌, cond, Bool, true, false, List, [], ◌∷◌, Some, None, sym, refl, ap, ◌∙◌, subst, ⊎_elim, arith}
+use Rattle.std.proofs.Common.{◌≡◌, ℕ, ◌+◌, ◌*◌, ◌/◌, ◌%◌, ◌<◌, ◌≤◌, true, List, [], ◌∷◌, Some, None, sym, refl, ap, ◌∙◌, subst, ⊎_elim, arith}
 use Rattle.std.proofs.Math.Nat.{div-lt_iff_lt-mul}
 use Rattle.std.proofs.lemmas.Bool.{both_ways, cond_both}
 use Rattle.farm_core.proofs.Words.{Occupancy, NODE_LIMIT, Addr, TxnId, region_count, same_addr, IsPlace, Start, Entry, Bytes, loaded_cell, occupancy, loaded_cells, begun}

@@ -1,5 +1,5 @@
 -- What every state of a run keeps, and the changes that keep it.
-use Rattle.std.proofs.Common.{◌≡◌, ◌≢◌, ◌⊎◌, ℕ, ◌+◌, ◌<◌, ◌≤◌, nat_lt, eqb, true, false, List, [], ◌∷◌, ◌++◌, Option, Some, None, Ok, sym, refl, ap, ◌∙◌, subst, inl, inr, ⊎_elim, arith, append_assoc}
+use Rattle.std.proofs.Common.{◌≡◌, ◌≢◌, ◌⊎◌, ℕ, ◌<◌, ◌≤◌, nat_lt, eqb, true, false, List, [], ◌∷◌, ◌++◌, Option, Some, None, Ok, sym, refl, ap, ◌∙◌, subst, inl, inr, ⊎_elim, arith, append_assoc}
 use Rattle.std.proofs.lemmas.Bool.{both_ways, cond-true, cond-false, cond_both, eqb-true, false_from_ne_true}
 use Rattle.farm_core.proofs.Words.{ACTOR_LIMIT, NODE_LIMIT, Addr, TxnId, Start, Entry, same_txn, NodeState, Fits, after, Lawful, replay, IsStamp, Story, story}
 use Rattle.farm_core.proofs.Words.{Unbegun, Reading, Drawn, Installing, Transaction, unbegun, State, home, node_at, set_log, adding, adding_to_all}

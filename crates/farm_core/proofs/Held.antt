@@ -1,5 +1,5 @@
 -- What one transaction's phase says of one address: of its lock there, and of its puts.
-use Rattle.std.proofs.Common.{◌≡◌, ◌≢◌, ◌⊎◌, ℕ, ◌<◌, ◌≤◌, max, cond, Bool, true, false, List, ◌∷◌, Option, Some, None, Ok, ◌||◌, sym, refl, ap, ◌∙◌, subst, inl, inr, ⊎_elim, arith}
+use Rattle.std.proofs.Common.{◌≡◌, ◌≢◌, ◌⊎◌, ℕ, ◌<◌, ◌≤◌, max, cond, Bool, true, false, List, Option, Some, None, Ok, sym, refl, ap, ◌∙◌, subst, inl, inr, ⊎_elim, arith}
 use Rattle.std.proofs.lemmas.Bool.{both_ways, or_cases, cond-true}
 use Rattle.farm_core.proofs.Words.{cut, with_addr, Addr, TxnId, same_addr, newest, Hold, Entry, Cell, same_txn, NodeState, HeldBy, Given, gives, Installed, Story}
 use Rattle.farm_core.proofs.Words.{IsAmong, Stage, Refused, Transaction, unbegun, begun_at, drawn_at, with_locked, ended}

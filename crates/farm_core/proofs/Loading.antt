@@ -1,11 +1,10 @@
 -- Loading.
-use Rattle.std.proofs.Common.{◌≡◌, ℕ, ◌+◌, ◌*◌, ◌/◌, ◌%◌, ◌<◌, ◌≤◌, Bool, true, false, is_some, List, length, get_or, Option, Some, None, Ok, sym, refl, ap, ◌∙◌, subst, inl, inr, ⊎_elim, arith}
+use Rattle.std.proofs.Common.{◌≡◌, ℕ, ◌%◌, ◌<◌, Bool, true, false, is_some, List, length, get_or, Option, Some, None, Ok, sym, refl, ap, ◌∙◌, subst, inl, inr, ⊎_elim}
 use Rattle.std.proofs.Math.ListN.{set}
 use Rattle.std.proofs.lemmas.Bool.{both_ways}
-use Rattle.std.proofs.lemmas.Nat.{div-add-mod', div_below}
-use Rattle.farm_core.proofs.Words.{ACTOR_LIMIT, Addr, TxnId, region_count, IsPlace, Node, Entry, Bytes, Cell, loaded_cell, NodeState, HeldBy, occupancy, Lawful}
-use Rattle.farm_core.proofs.Words.{replay, with_cell, plain_of, Slot, Farm, State, home, node_at, node_of, set_log, log_loaded, HoldsLockAt, Meets, IsAddr}
-use Rattle.farm_core.proofs.Words.{IsObject, NodesStand, SlotStands, Stands, StepsTo}
+use Rattle.farm_core.proofs.Words.{Addr, TxnId, IsPlace, Node, Entry, Bytes, Cell, loaded_cell, NodeState, HeldBy, occupancy, Lawful}
+use Rattle.farm_core.proofs.Words.{replay, with_cell, plain_of, Farm, State, home, node_at, node_of, set_log, log_loaded, HoldsLockAt, Meets, IsAddr}
+use Rattle.farm_core.proofs.Words.{IsObject, NodesStand, Stands, StepsTo}
 use Rattle.farm_core.specs.declared.event.Event.TheVariants as event
 use Rattle.farm_core.specs.declared.event.Answer.TheVariants as answer
 use Rattle.farm_core.proofs.Held.{Holds, holds_held}

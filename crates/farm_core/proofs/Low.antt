@@ -1,5 +1,5 @@
 -- Every stamp of a node's state is at most the clock.
-use Rattle.std.proofs.Common.{◌≡◌, ℕ, zero, suc, ◌≤◌, max, cond, true, false, List, [], ◌∷◌, Option, Some, None, Ok, Err, arith}
+use Rattle.std.proofs.Common.{◌≡◌, ℕ, zero, suc, ◌≤◌, max, cond, true, false, List, [], ◌∷◌, Option, Some, None, Ok, arith}
 use Rattle.farm_core.proofs.Words.{Addr, same_addr, cut, Entry, Cell, raised_to, past_raised, locked_by, installed, released, past_released, goes, collected}
 use Rattle.farm_core.proofs.Words.{past_collected, NodeState, set_cell, places, least_pin, new_floor, past_over, Fits, looked_at, after, lesser, TxnId}
 use Rattle.farm_node.specs.declared.entry.Entry.TheVariants as entry

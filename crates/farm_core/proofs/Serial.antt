@@ -1,5 +1,5 @@
 -- The laws of a good state.
-use Rattle.std.proofs.Common.{◌≡◌, ℕ, ◌<◌, ◌≤◌, Bool, true, false, List, ◌∷◌, ◌++◌, Ok, sym, refl, ap, ◌∙◌, subst, inr, ⊎_elim, arith, append_assoc}
+use Rattle.std.proofs.Common.{◌≡◌, ℕ, ◌<◌, ◌≤◌, true, List, ◌∷◌, ◌++◌, Ok, sym, refl, ap, ◌∙◌, subst, inr, ⊎_elim, arith, append_assoc}
 use Rattle.std.proofs.lemmas.Bool.{both_ways, cases_Bool}
 use Rattle.farm_core.proofs.Words.{Addr, TxnId, Found, Entry, Lawful, Installed, story, value_at, stamped_bytes, Installing, State, home, node_of}
 use Rattle.farm_node.specs.declared.entry.Entry.TheVariants as entry

@@ -1,4 +1,4 @@
-use Rattle.std.proofs.Common.{◌<◌, ◌≤◌, ℕ, get_or, length, max, sym, ap, ◌∙◌, subst, arith}
+use Rattle.std.proofs.Common.{◌<◌, ◌≤◌, ℕ, get_or, length, sym, ap, ◌∙◌, subst, arith}
 use Rattle.farm_core.proofs.Words.{NodeState, Adds, plain_of}
 use Rattle.farm_node.specs.declared.entry.Entry.TheVariants as entry
 use Rattle.farm_core.proofs.EachNode.{next_is, each_more}

@@ -1,5 +1,4 @@
-use Rattle.std.proofs.Common.{Ok, subst}
-use Rattle.farm_core.proofs.Words.{IsOf}
+use Rattle.std.proofs.Common.{Ok}
 use Rattle.farm_core.specs.declared.event.Event.TheVariants as event
 use Rattle.farm_core.proofs.Advancing.{acted_is, drawn_is, can_act, can_draw, node_is_there}
 use Rattle.farm_core.proofs.active.Active.act.Goals as goal
