@@ -1,7 +1,7 @@
 -- A begin.
 use Rattle.std.proofs.Common.{◌≡◌, ℕ, ◌+◌, ◌<◌, ◌≤◌, max, eqb, true, false, not, is_some, List, length, get_or, Option, Some, None, Ok, sym, refl, ap, ◌∙◌, subst, inl, inr, arith}
 use Rattle.std.proofs.Math.ListN.{set}
-use Rattle.std.proofs.lemmas.Bool.{and_parts, and_from, both_ways, cond-true, cond-false, eqb-true, eq-eqb, ne_eqb}
+use Rattle.std.proofs.lemmas.Bool.{not-true, and_parts, and_from, both_ways, cond-true, cond-false, eqb-true, eq-eqb, ne_eqb}
 use Rattle.farm_core.proofs.Words.{ACTOR_LIMIT, Addr, TxnId, Hold, Node, Entry, Cell, NodeState, Adds, IsStamp, story, Active, Slot, Farm, begun_at, State}
 use Rattle.farm_core.proofs.Words.{home, node_at, adding_to_all, moving, counting_begin, loading_over, HoldsLockAt, Meets, IsActor, plains, NodesStand}
 use Rattle.farm_core.proofs.Words.{StandsOpen, in_list, OpenStands, SlotStands, Stands, StepsTo, AddsEach, may_begin}
@@ -11,18 +11,11 @@ use Rattle.farm_core.specs.declared.event.Answer.TheVariants as answer
 use Rattle.farm_core.proofs.Held.{HasLock, HoldingCell}
 use Rattle.farm_core.proofs.Good.{Good, NoneOpen, self_moved, other_stays}
 use Rattle.farm_core.proofs.Changes.{good}
-use Rattle.farm_core.proofs.Farming.{reached_more, slot_of, stands_set, each_added, held_each}
-
-none_is : (o : Option Active) → not (is_some o) ≡ true → o ≡ None
-none_is None is = refl
-none_is (Some x) is = absurd (cc)
+use Rattle.farm_core.proofs.Farming.{none_of, reached_more, slot_of, stands_set, each_added, held_each}
 
 module _ (farm : Farm) (s : State) (st : Stands farm s) (t : TxnId) (actor : IsActor t) where
   g : Good s
   g = good s st.reached
-
-  pub clock_low : IsStamp farm.clock
-  clock_low = subst IsStamp (sym st.clock_is) g.base.clock.1
 
   module _ (slot : Slot) (there : slot ≡ get_or farm.slots.items t.actor slot) where
     slot_is : SlotStands slot t.actor s
@@ -31,7 +24,7 @@ module _ (farm : Farm) (s : State) (st : Stands farm s) (t : TxnId) (actor : IsA
     pub begin_meets : may_begin slot t.number ≡ true → Meets s (event.Begin t)
     begin_meets may =
         let z = and_parts (not (is_some slot.open)) (eqb (slot.begins + 1) t.number) may in (
-          subst (λ (o : Option Active). OpenStands o t.actor s) (none_is slot.open z.0) slot_is.current,
+          subst (λ (o : Option Active). OpenStands o t.actor s) (none_of slot.open (not-true _ z.0)) slot_is.current,
           sym (eqb-true (slot.begins + 1) t.number z.1) ∙ ap (λ (n : ℕ). n + 1) slot_is.begins,
         )
 

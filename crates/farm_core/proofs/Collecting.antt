@@ -14,9 +14,6 @@ module _ (farm : Farm) (s : State) (st : Stands farm s) where
   g : Good s
   g = good s st.reached
 
-  pub stamp_low : IsStamp farm.clock
-  stamp_low = subst IsStamp (sym st.clock_is) g.base.clock.1
-
   pub collect_stands : (n : ℕ) (old v : Node) (removed : Collected) (after : Farm) → n < length farm.nodes.items → old ≡ get_or farm.nodes.items n old → Adds (plain_of old) (entry.Collect COLLECTOR_ACTOR farm.clock removed) (plain_of v)
       → after.nodes.items ≡ set farm.nodes.items n v → after.clock ≡ farm.clock → after.loading ≡ false → after.slots.items ≡ farm.slots.items
       → StepsTo s (event.Collect n) (Ok (answer.Collected removed.floor removed.versions removed.objects)) (Stands after)

@@ -143,13 +143,10 @@ module _ (s : State) (g : Good s) where
   pub good_check : (t : TxnId) (a : Addr) (y : Result (Unit {0}) CheckFault) (told : _) (next : State) → IsAt Drawn s t → (HoldsLockAt s t a → ⊥)
       → y ≡ check_answer (s.transactions t).read_stamp ((node_of s a).cells a) → Checks s t a (s.transactions t).read_stamp (s.transactions t).write_stamp y told next → Good next
   good_check t a y told next at free due acts = by y due acts where
-    fits : (y : Result (Unit {0}) CheckFault) → y ≡ check_answer (s.transactions t).read_stamp ((node_of s a).cells a)
-        → FitsCheck (node_of s a) t a (s.transactions t).read_stamp (s.transactions t).write_stamp y
-    fits y due = record { pinned = is_pinned t (home s a) (less_home a) at.0; stamps = (read_stamp t, write_stamp t); not_own = free; due = due }
-
     more : (y : Result (Unit {0}) CheckFault) → y ≡ check_answer (s.transactions t).read_stamp ((node_of s a).cells a)
         → Good (adding (home s a) (entry.Check t a (s.transactions t).read_stamp (s.transactions t).write_stamp y) s)
-    more y due = good_adding s (home s a) (entry.Check t a (s.transactions t).read_stamp (s.transactions t).write_stamp y) g (started s g t at.0) (less_home a) tt (fits y due) (g.base.sane t).write (λ u. tt)
+    more y due = good_adding s (home s a) (entry.Check t a (s.transactions t).read_stamp (s.transactions t).write_stamp y) g (started s g t at.0) (less_home a) tt
+        (record { pinned = is_pinned t (home s a) (less_home a) at.0; stamps = (read_stamp t, write_stamp t); not_own = free; due = due }) (g.base.sane t).write (λ u. tt)
 
     by : (y : Result (Unit {0}) CheckFault) → y ≡ check_answer (s.transactions t).read_stamp ((node_of s a).cells a)
         → Checks s t a (s.transactions t).read_stamp (s.transactions t).write_stamp y told next → Good next

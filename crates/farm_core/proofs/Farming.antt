@@ -1,15 +1,15 @@
 -- What the farm stands for after a step.
-use Rattle.std.proofs.Common.{◌≡◌, ◌≢◌, ℕ, ◌+◌, ◌<◌, ◌≤◌, true, false, List, [], ◌∷◌, ◌++◌, length, get_or, get_or-set_other, get_or-set_same, Option, Some, None, Result, Ok, Err, sym, refl, ap, ◌∙◌, subst, ⊎_elim, arith}
+use Rattle.std.proofs.Common.{is_some, ◌≡◌, ◌≢◌, ℕ, ◌+◌, ◌<◌, ◌≤◌, true, false, List, [], ◌∷◌, ◌++◌, length, get_or, get_or-set_other, get_or-set_same, Option, Some, None, Result, Ok, Err, sym, refl, ap, ◌∙◌, subst, ⊎_elim, arith}
 use Rattle.std.proofs.Math.ListN.{set, length-set}
 use Rattle.std.proofs.lemmas.Bool.{cases_eq}
-use Rattle.farm_core.proofs.Words.{same_txn, ACTOR_LIMIT, Memory, Addr, TxnId, Node, Entry, NodeState, Adds, after, Event, Answer, Active, Slot}
+use Rattle.farm_core.proofs.Words.{IsStamp, same_txn, ACTOR_LIMIT, Memory, Addr, TxnId, Node, Entry, NodeState, Adds, after, Event, Answer, Active, Slot}
 use Rattle.farm_core.proofs.Words.{Farm, Transaction, State, adding_to_all, HoldsLockAt, Steps, IsActor, InRange, Runs, fresh, Reached, plains}
 use Rattle.farm_core.proofs.Words.{NodesStand, StandsOpen, in_list, Aside, Stepped, IsOf, OpenStands, SlotStands, SlotAt, Stands, StepsTo}
 use Rattle.farm_core.specs.declared.event.Event.TheVariants as event
 use Rattle.farm_core.proofs.Good.{Good, all_grown, another}
 use Rattle.farm_core.proofs.Events.{all_grown_node}
 use Rattle.farm_core.proofs.Slots.{aside_self}
-use Rattle.farm_core.proofs.Changes.{Takes, held_grown}
+use Rattle.farm_core.proofs.Changes.{Takes, good, held_grown}
 
 -- one event more
 
@@ -51,6 +51,13 @@ actor_of nodes t (event.Check u a) own range = subst IsActor own range.0
 actor_of nodes t (event.Put u a) own range = subst IsActor own range.0
 actor_of nodes t (event.Unlock u a) own range = subst IsActor own range.0
 actor_of nodes t e own range = absurd own
+
+pub none_of : {A : Type 0} (o : Option A) → is_some o ≡ false → o ≡ None
+none_of None is = refl
+none_of (Some x) is = absurd (cc)
+
+pub clock_low : (farm : Farm) (s : State) → Stands farm s → IsStamp farm.clock
+clock_low farm s st = subst IsStamp (sym st.clock_is) (good s st.reached).base.clock.1
 
 -- the farm after an event that leaves the slots
 pub stands_kept : (farm : Farm) (s : State) (st : Stands farm s) (after : Farm) (later : State) → Reached later → after.clock ≡ later.clock → after.loading ≡ later.loading

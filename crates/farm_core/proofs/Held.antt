@@ -72,12 +72,6 @@ not_free t (Some k) free has = cc
 same_holder : (t u : TxnId) (l : Option Hold) (k : Hold) → l ≡ Some k → k.by ≡ u → HasLock t l → u ≡ t
 same_holder t u l k is own has = let e : k.by ≡ t = subst (λ (z : Option Hold). HasLock t z) is has in sym own ∙ e
 
-holds_lock : (t u : TxnId) (l : Option Hold) (k : Hold) → l ≡ Some k → k.by ≡ u → u ≡ t → HasLock t l
-holds_lock t u l k is own same = subst (λ (z : Option Hold). HasLock t z) (sym is) (own ∙ same)
-
-given_own : (t u : TxnId) (g : Given) (h : Story) → u ≡ t → cond (same_txn u t) g (h.given t) ≡ g
-given_own t u g h same = cond-true (same_txn u t) g (h.given t) (ap (λ (z : TxnId). same_txn z t) same ∙ txn_self t)
-
 module _ (t : TxnId) (x : Transaction) (a : Addr) where
   -- a lock that is given newly
   given_holding : (u : TxnId) (r bound : ℕ) (v : Option (List ℕ)) (h : Story) → (u ≡ t → (x.is_open ≡ true) × (x.write_stamp ≡ 0) × (r ≡ x.read_stamp)) → u ≡ t
@@ -88,7 +82,7 @@ module _ (t : TxnId) (x : Transaction) (a : Addr) where
       record {
         is_open = ok.0;
         low = λ drawn. absurd (omega arith);
-        read = ap (λ (g : Given). g.read) (given_own t u (gives r v) h mine) ∙ ok.2;
+        read = ap (λ (g : Given). g.read) (cond-true (same_txn u t) (gives r v) (h.given t) (ap (λ (z : TxnId). same_txn z t) mine ∙ txn_self t)) ∙ ok.2;
       }
 
   ended_locked : (u : TxnId) (l : Option Hold) (k : Hold) (puts : List Installed) → l ≡ Some k → k.by ≡ u → (u ≡ t → x.stage ≡ Refused) → x.stage ≢ Refused → HasLock t l ⊎ HasPut t puts → HasPut t puts
@@ -133,7 +127,7 @@ module _ (t : TxnId) (x : Transaction) (a : Addr) where
           (λ is. subst (λ (z : Installed). z.by ≡ t → IsPut x z) is
           (λ (same : u ≡ t).
           let ok = ending.fits same in
-          let had : Holding t x c.bound h = y.holding (holds_lock t u c.lock ending.hold ending.lock ending.own same) in
+          let had : Holding t x c.bound h = y.holding (subst (λ (l : Option Hold). HasLock t l) (sym ending.lock) (ending.own ∙ same)) in
           record { stamp = ok.0; drawn = ok.1; read = ap (λ (z : TxnId). (h.given z).read) same ∙ had.read })
           mine)
           (λ more. y.puts i more mine)

@@ -12,15 +12,7 @@ use Rattle.farm_core.proofs.Good.{Listed, Good, IsFirst, set_at}
 use Rattle.farm_core.proofs.Events.{less_home}
 use Rattle.farm_core.proofs.Changes.{good, holds_set, held_holds, old_is, nodes_set, nodes_kept}
 use Rattle.farm_core.proofs.First.{is_place}
-use Rattle.farm_core.proofs.Farming.{reached_more, stands_kept}
-
-no_value : (c : Option Cell) → is_some c ≡ false → c ≡ None
-no_value None is = refl
-no_value (Some c) is = absurd (cc)
-
-some_value : (c : Option Cell) → is_some c ≡ true → c ≡ None → ⊥
-some_value None is none = absurd (cc)
-some_value (Some c) is none = absurd (cc)
+use Rattle.farm_core.proofs.Farming.{none_of, reached_more, stands_kept}
 
 -- a loaded object in the first entry
 first_loaded : (log : List Entry) (a : Addr) (bytes : Bytes) → IsFirst log → replay (log_loaded a bytes log) ≡ with_cell a (loaded_cell (replay log).floor bytes) (replay log)
@@ -52,7 +44,7 @@ module _ (farm : Farm) (s : State) (st : Stands farm s) (a : Addr) where
     pub load_taken : (bytes : Bytes) (has : Bool) → has ≡ is_some ((plain_of old).cells a) → has ≡ true → StepsTo s (event.Load a bytes) (Ok answer.No) (Stands farm)
     load_taken bytes has says yes_it = (
       s,
-      inr (λ meets. some_value ((node_of s a).cells a) (ap (λ (p : NodeState). is_some (p.cells a)) (sym here) ∙ (sym says ∙ yes_it)) meets.1, (refl, refl)),
+      inr (λ meets. both_ways _ (ap (λ (c : Option Cell). is_some c) meets.1) (ap (λ (p : NodeState). is_some (p.cells a)) (sym here) ∙ (sym says ∙ yes_it)), (refl, refl)),
       st,
     )
 
@@ -72,7 +64,7 @@ module _ (farm : Farm) (s : State) (st : Stands farm s) (a : Addr) where
         later = record s { logs = set_log (home s a) (log_loaded a bytes (s.logs (home s a))) s.logs }
 
         meets : Meets s (event.Load a bytes)
-        meets = (sym st.loading_is ∙ loading, no_value ((node_of s a).cells a) (ap (λ (p : NodeState). is_some (p.cells a)) (sym here) ∙ (sym says ∙ free)))
+        meets = (sym st.loading_is ∙ loading, none_of ((node_of s a).cells a) (ap (λ (p : NodeState). is_some (p.cells a)) (sym here) ∙ (sym says ∙ free)))
 
         written : plain_of v ≡ with_cell a (loaded_cell (plain_of old).floor copy) (plain_of old) → plain_of v ≡ replay (log_loaded a bytes (s.logs (home s a)))
         written made = made ∙ ((λ i. with_cell a (loaded_cell (here i).floor (same i)) (here i)) ∙ sym (first_loaded (s.logs (home s a)) a bytes log_first))

@@ -25,9 +25,6 @@ module _ (s : State) (g : Good s) where
 
   -- the serial order
 
-  later : (t : TxnId) → HasInstalled s t → (s.transactions t).read_stamp < (s.transactions t).write_stamp
-  later t done = (g.base.sane t).drawn (inr done.0)
-
   actor_of : (t : TxnId) → HasInstalled s t → 0 < t.actor
   actor_of t done = let stage : (s.transactions t).stage ≡ Installing = done.0 in ((g.base.sane t).begun (λ none. cc)).0
 
@@ -65,7 +62,7 @@ module _ (s : State) (g : Good s) where
   pub serial : SerialOrder s
   serial = record {
     apart = g.base.apart;
-    later = later;
+    later = λ t done. (g.base.sane t).drawn (inr done.0);
     puts = λ a i there actor. ((g.base.held i.by actor a).puts i there refl).stamp;
     installs = installs;
     steady = steady;

@@ -1,6 +1,7 @@
 use Rattle.std.proofs.Common.{◌≡◌, ◌∙◌, length, refl, sym, arith}
 use Rattle.std.proofs.lemmas.List.{with_items_is}
-use Rattle.farm_core.proofs.Beginning.{clock_low, begin_meets, begin_no, begin_free, begin_stands}
+use Rattle.farm_core.proofs.Farming.{clock_low}
+use Rattle.farm_core.proofs.Beginning.{begin_meets, begin_no, begin_free, begin_stands}
 use Rattle.farm_core.proofs.farm.Farm.begin.Goals as goal
 
 pub returns-then-not-may_begin-clause-steps : goal.returns-then-not-may_begin-clause-steps
@@ -12,7 +13,7 @@ open_all-requires c =
     let known = c.requires.known in
     let meets = begin_meets c.args.self.now known.0 known.1 c.args.transaction c.requires.actor c.index.result.now c.index.ensures (sym c.may_begin.ensures ∙ c.if-not-may_begin.false) in
     record {
-      actor = (c.requires.actor.0, clock_low c.args.self.now known.0 known.1 c.args.transaction c.requires.actor);
+      actor = (c.requires.actor.0, clock_low c.args.self.now known.0 known.1);
       free = begin_free c.args.self.now known.0 known.1 c.args.transaction c.requires.actor meets.0 c.deref_mut.result.now c.deref_mut.ensures.value;
     }
 
