@@ -6,17 +6,9 @@ use Rattle.farm_core.proofs.Words.{with_addr, ReadSet, without_addr, reading, ch
 use Rattle.farm_node.proofs.Addresses.{addr_eq, same_self}
 use Rattle.farm_core.specs.declared.active.Phase.TheVariants as phase
 
-or_more : (g f l : Bool) → (f ≡ true → l ≡ true) → (g || f) ≡ true → (g || l) ≡ true
-or_more true f l more there = refl
-or_more false f l more there = more there
-
-or_split : (P : Type 0) (g f l : Bool) → (l ≡ true → (f ≡ true) ⊎ P) → (g || l) ≡ true → ((g || f) ≡ true) ⊎ P
-or_split P true f l split there = inl refl
-or_split P false f l split there = split there
-
 pub in_front : (b a : Addr) (xs : List Addr) → in_list b xs ≡ true → in_list b (xs ++ a ∷ []) ≡ true
 in_front b a [] there = absurd (cc)
-in_front b a (x ∷ xs) there = or_more (same_addr b x) (in_list b xs) (in_list b (xs ++ a ∷ [])) (in_front b a xs) there
+in_front b a (x ∷ xs) there = ⊎_elim (λ here. or_left _ _ here) (λ more. or_right _ _ (in_front b a xs more)) (or_cases (same_addr b x) (in_list b xs) there)
 
 pub is_last : (a : Addr) (xs : List Addr) → in_list a (xs ++ a ∷ []) ≡ true
 is_last a [] = ap (λ (g : Bool). g || false) (same_self a)
@@ -24,7 +16,10 @@ is_last a (x ∷ xs) = or_right (same_addr a x) (in_list a (xs ++ a ∷ [])) (is
 
 pub front_or_last : (b a : Addr) (xs : List Addr) → in_list b (xs ++ a ∷ []) ≡ true → (in_list b xs ≡ true) ⊎ (b ≡ a)
 front_or_last b a [] there = ⊎_elim (λ same. inr (addr_eq b a same)) (λ none. absurd (cc)) (or_cases (same_addr b a) false there)
-front_or_last b a (x ∷ xs) there = or_split (b ≡ a) (same_addr b x) (in_list b xs) (in_list b (xs ++ a ∷ [])) (front_or_last b a xs) there
+front_or_last b a (x ∷ xs) there = ⊎_elim
+    (λ here. inl (or_left _ _ here))
+    (λ more. ⊎_elim (λ front. inl (or_right _ _ front)) (λ last. inr last) (front_or_last b a xs more))
+    (or_cases (same_addr b x) (in_list b (xs ++ a ∷ [])) there)
 
 module _ (x : Active) (y : Transaction) (o : StandsOpen x y) where
   -- the same but for the phase, and for how the addresses are kept

@@ -40,8 +40,6 @@ module _ (farm : Farm) (s : State) (st : Stands farm s) where
     adds_it : Adds (plain_of (get_or farm.nodes.items n old)) e (plain_of v)
     adds_it = subst (λ (z : Node × ℕ). Adds (plain_of z.0) (entry.Collect COLLECTOR_ACTOR z.1 removed) (plain_of v)) (λ i. (there i, st.clock_is i)) adds
 
-    due : removed ≡ collect_answer (node_at s n) s.clock
-    due = adds.fits.2 ∙ (λ i. collect_answer (given_is i) (st.clock_is i))
-
     acts : Collects s n (collect_answer (node_at s n) s.clock) (answer.Collected removed.floor removed.versions removed.objects) later
-    acts = subst (λ (w : Collected). Collects s n w (answer.Collected removed.floor removed.versions removed.objects) later) due (refl, refl)
+    acts = subst (λ (w : Collected). Collects s n w (answer.Collected removed.floor removed.versions removed.objects) later)
+        (adds.fits.2 ∙ (λ i. collect_answer (given_is i) (st.clock_is i))) (refl, refl)

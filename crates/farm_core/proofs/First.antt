@@ -118,27 +118,24 @@ listed_loaded clock nodes n a bytes m low there at_home empty l =
 
 pub good_load : (s : State) (a : Addr) (bytes : Bytes) → Good s → IsAddr s.nodes a → s.loading ≡ true → (node_of s a).cells a ≡ None
     → Good (record s { logs = set_log (home s a) (log_loaded a bytes (s.logs (home s a))) s.logs })
-good_load s a bytes g there loading empty = good_first (record s { logs = set_log (home s a) (log_loaded a bytes (s.logs (home s a))) s.logs }) b.count b.clock
-    (λ n less. set_at (Listed s.clock s.nodes n) (home s a) n (log_loaded a bytes (s.logs (home s a))) s.logs (λ is. subst (λ (z : ℕ). Listed s.clock s.nodes z (log_loaded a bytes (s.logs (home s a)))) is here) (b.lists n less))
+good_load s a bytes g there loading empty = good_first (record s { logs = set_log (home s a) (log_loaded a bytes (s.logs (home s a))) s.logs }) g.base.count g.base.clock
+    (λ n less. set_at (Listed s.clock s.nodes n) (home s a) n (log_loaded a bytes (s.logs (home s a))) s.logs (λ is. subst (λ (z : ℕ). Listed s.clock s.nodes z (log_loaded a bytes (s.logs (home s a)))) is here) (g.base.lists n less))
     (λ n less. set_at IsFirst (home s a) n (log_loaded a bytes (s.logs (home s a))) s.logs (λ is. first_here) (one.0 n less))
     one.1 where
-      b : Base s
-      b = g.base
-
       one : ((n : ℕ) → n < s.nodes → IsFirst (s.logs n)) × ((t : TxnId) → s.transactions t ≡ unbegun)
-      one = b.first loading
+      one = g.base.first loading
 
       less_home : home s a < s.nodes
-      less_home = home_low s a b.count.0
+      less_home = home_low s a g.base.count.0
 
       f : IsFirst (s.logs (home s a))
       f = one.0 (home s a) less_home
 
       here : Listed s.clock s.nodes (home s a) (log_loaded a bytes (s.logs (home s a)))
       here = subst (λ (log : List Entry). Listed s.clock s.nodes (home s a) (log_loaded a bytes log)) (sym f.1)
-          (listed_loaded s.clock s.nodes (home s a) a bytes f.0 b.count.0 there refl
+          (listed_loaded s.clock s.nodes (home s a) a bytes f.0 g.base.count.0 there refl
           (sym (ap (λ (log : List Entry). (replay log).cells a) f.1) ∙ empty)
-          (subst (Listed s.clock s.nodes (home s a)) f.1 (b.lists (home s a) less_home)))
+          (subst (Listed s.clock s.nodes (home s a)) f.1 (g.base.lists (home s a) less_home)))
 
       first_here : IsFirst (log_loaded a bytes (s.logs (home s a)))
       first_here = (record f.0 { heap = (a, bytes) ∷ f.0.heap }, ap (log_loaded a bytes) f.1)

@@ -27,10 +27,6 @@ module _ (clock : ℕ) (begins : ℕ → ℕ) (t : TxnId) (x : Transaction) (y :
   pub sane_reading : (reads locks : Addr → Bool) → x.stage ≡ Reading → Sane clock begins t (record x { has_read = reads; had_locked = locks })
   sane_reading reads locks is = sane_next clock begins t x _ _ _ reads locks _ y (λ none. cc) (λ none. cc) (λ o. o) y.write y.undrawn y.drawn (λ installing. absurd (cc))
 
-  pub sane_refused : x.stage ≢ Unbegun → Sane clock begins t (in_stage Refused x)
-  sane_refused begun = sane_next clock begins t x Refused _ _ _ _ _ y begun (λ none. cc) (λ o. o) y.write (λ reading. absurd (cc))
-      (λ is. absurd (⊎_elim (λ drawn. cc) (λ installing. cc) is)) (λ installing. absurd (cc))
-
 pub sane_begun : (clock : ℕ) (begins : ℕ → ℕ) (t : TxnId) → 0 < clock → 0 < t.actor → t.actor ≤ ACTOR_LIMIT → t.number ≡ begins t.actor → Sane clock begins t (begun_at clock)
 sane_begun clock begins t low actor few current = record {
   fresh = λ none. absurd (cc);
@@ -69,7 +65,8 @@ module _ (s : State) (g : Good s) where
 
   pub good_refused : (t : TxnId) → (s.transactions t).is_open ≡ true → Good (moving t (in_stage Refused) s)
   good_refused t is_open = good_staged t Refused (s.transactions t).has_read (s.transactions t).is_same (started t is_open)
-      (sane_refused s.clock s.begins t (s.transactions t) (g.base.sane t) (open_stage t is_open))
+      (sane_next s.clock s.begins t (s.transactions t) Refused _ _ _ _ _ (g.base.sane t) (open_stage t is_open) (λ none. cc) (λ o. o) (g.base.sane t).write (λ reading. absurd (cc))
+      (λ is. absurd (⊎_elim (λ drawn. cc) (λ installing. cc) is)) (λ installing. absurd (cc)))
       (λ going. absurd (going refl))
       (g.base.same t)
 
