@@ -2,7 +2,7 @@
 use Rattle.std.proofs.Common.{◌≡◌, ℕ, ◌+◌, ◌<◌, ◌≤◌, max, eqb, true, false, not, is_some, List, length, get_or, Option, Some, None, Ok, sym, refl, ap, ◌∙◌, subst, inl, inr, arith}
 use Rattle.std.proofs.Math.ListN.{set}
 use Rattle.std.proofs.lemmas.Bool.{not-true, and_parts, and_from, both_ways, cond-true, cond-false, eqb-true, eq-eqb, ne_eqb}
-use Rattle.farm_core.proofs.Words.{ACTOR_LIMIT, Addr, TxnId, Hold, Node, Entry, Cell, NodeState, Adds, IsStamp, story, Active, Slot, Farm, begun_at, State}
+use Rattle.farm_core.proofs.Words.{ACTOR_LIMIT, Addr, TxnId, Hold, Node, Entry, Cell, NodeState, Adds, story, Active, Slot, Farm, begun_at, State}
 use Rattle.farm_core.proofs.Words.{home, node_at, adding_to_all, moving, counting_begin, loading_over, HoldsLockAt, Meets, IsActor, plains, NodesStand}
 use Rattle.farm_core.proofs.Words.{StandsOpen, in_list, OpenStands, SlotStands, Stands, StepsTo, AddsEach, may_begin}
 use Rattle.farm_node.specs.declared.entry.Entry.TheVariants as entry

@@ -1,7 +1,7 @@
 -- A collection.
 use Rattle.std.proofs.Common.{◌≡◌, ℕ, ◌<◌, false, List, length, get_or, Ok, sym, refl, ap, ◌∙◌, subst, inl, ⊎_elim, arith}
 use Rattle.std.proofs.Math.ListN.{set}
-use Rattle.farm_core.proofs.Words.{COLLECTOR_ACTOR, Node, Collected, Entry, Adds, collect_answer, IsStamp, plain_of, Farm}
+use Rattle.farm_core.proofs.Words.{COLLECTOR_ACTOR, Node, Collected, Entry, Adds, collect_answer, plain_of, Farm}
 use Rattle.farm_core.proofs.Words.{State, node_at, adding, loading_over, Collects, NodesStand, Stands, StepsTo}
 use Rattle.farm_node.specs.declared.entry.Entry.TheVariants as entry
 use Rattle.farm_core.specs.declared.event.Event.TheVariants as event

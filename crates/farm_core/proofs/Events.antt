@@ -3,7 +3,7 @@ use Rattle.std.proofs.Common.{◌≡◌, ◌⊎◌, ℕ, ◌+◌, ◌*◌, ◌%�
 use Rattle.std.proofs.lemmas.Bool.{or_cases, eq-eqb, lt-ltb}
 use Rattle.std.proofs.lemmas.Nat.{mod-mul-add}
 use Rattle.farm_core.proofs.Words.{MayPut, COLLECTOR_ACTOR, LAST_STAMP, Addr, TxnId, same_addr, LeastFree, Hold, Found, Locked, CheckFault, Entry, Bytes, Cell}
-use Rattle.farm_core.proofs.Words.{read_answer, made_by, locked_by, lock_answer, check_answer, NodeState, occupancy, PinnedBy, MayLock, FitsLock, FitsCheck}
+use Rattle.farm_core.proofs.Words.{read_answer, made_by, locked_by, lock_answer, check_answer, NodeState, occupancy, PinnedBy, MayLock, FitsLock}
 use Rattle.farm_core.proofs.Words.{after, replay, collect_answer, IsStamp, story, Reading, Drawn, Installing, Refused, with_addr, with_locked, in_stage, State}
 use Rattle.farm_core.proofs.Words.{home, node_at, node_of, set_log, adding, adding_to_all, set_transaction, moving, loading_over, IsAt, HoldsLockAt, AllSame}
 use Rattle.farm_core.proofs.Words.{Reads, Allocates, Locks, Draws, Checks, Collects}

@@ -74,9 +74,6 @@ stands_kept farm s st after later r clock_is loading_is nodes slots_are begins s
 }
 
 module _ (farm : Farm) (s : State) (st : Stands farm s) (t : TxnId) (actor : IsActor t) where
-  slot_there : t.actor < length farm.slots.items
-  slot_there = let count : length farm.slots.items ≡ ACTOR_LIMIT + 1 = st.count in let high : t.actor ≤ ACTOR_LIMIT = actor.1 in omega arith
-
   pub slot_of : (slot : Slot) → slot ≡ get_or farm.slots.items t.actor slot → SlotStands slot t.actor s
   slot_of slot is = subst (λ (z : Slot). SlotStands z t.actor s) (sym is) (st.slots_stand t.actor slot actor.0 actor.1)
 
@@ -99,7 +96,7 @@ module _ (farm : Farm) (s : State) (st : Stands farm s) (t : TxnId) (actor : IsA
     count = ap length slots_are ∙ (length-set farm.slots.items t.actor slot ∙ st.count);
     slots_stand = λ k d low high. subst (λ (all : List Slot). SlotStands (get_or all k d) k later) (sym slots_are) (⊎_elim
         (λ (same : t.actor ≡ k). subst (λ (j : ℕ). SlotStands (get_or (set farm.slots.items t.actor slot) j d) j later) same
-        (subst (λ (z : Slot). SlotStands z t.actor later) (sym (get_or-set_same farm.slots.items t.actor slot d slot_there)) own))
+        (subst (λ (z : Slot). SlotStands z t.actor later) (sym (get_or-set_same farm.slots.items t.actor slot d (let size : length farm.slots.items ≡ ACTOR_LIMIT + 1 = st.count in let high : t.actor ≤ ACTOR_LIMIT = actor.1 in omega arith))) own))
         (λ (differ : t.actor ≢ k). subst (λ (z : Slot). SlotStands z k later) (sym (get_or-set_other farm.slots.items t.actor k slot d (λ same. differ (sym same))))
         (slot_kept (get_or farm.slots.items k d) k s later (begins k differ) (λ u is. others u (another t u k differ is)) (λ u a is. held u a (another t u k differ is)) (st.slots_stand k d low high)))
         (cases_eq t.actor k));

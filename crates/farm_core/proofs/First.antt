@@ -9,7 +9,7 @@ use Rattle.farm_node.specs.declared.entry.Entry.TheVariants as entry
 use Rattle.farm_node.proofs.Stories.{Ends, ends}
 use Rattle.farm_core.proofs.Low.{BoundLow}
 use Rattle.farm_core.proofs.Held.{HoldingCell}
-use Rattle.farm_core.proofs.Good.{Listed, Sane, HeldAt, IsFirst, Base, Good, home_low, set_at}
+use Rattle.farm_core.proofs.Good.{Listed, Sane, HeldAt, IsFirst, Good, home_low, set_at}
 
 sane_unbegun : (clock : ℕ) (begins : ℕ → ℕ) (t : TxnId) → Sane clock begins t unbegun
 sane_unbegun clock begins t = record {

@@ -1,5 +1,5 @@
 -- Loading.
-use Rattle.std.proofs.Common.{◌≡◌, ℕ, ◌%◌, ◌<◌, Bool, true, false, is_some, List, length, get_or, Option, Some, None, Ok, sym, refl, ap, ◌∙◌, subst, inl, inr, ⊎_elim}
+use Rattle.std.proofs.Common.{◌≡◌, ℕ, ◌%◌, ◌<◌, Bool, true, false, is_some, List, length, get_or, Option, Some, Ok, sym, refl, ap, ◌∙◌, subst, inl, inr, ⊎_elim}
 use Rattle.std.proofs.Math.ListN.{set}
 use Rattle.std.proofs.lemmas.Bool.{both_ways}
 use Rattle.farm_core.proofs.Words.{Addr, TxnId, IsPlace, Node, Entry, Bytes, Cell, loaded_cell, NodeState, HeldBy, occupancy, Lawful}

@@ -90,6 +90,7 @@ pub record State : Type 0 where
 abbrev pub start_of : ℕ → ℕ → Start
 start_of nodes node = record { node = node; nodes = nodes; actors = ACTOR_LIMIT; stamp = OPENING_STAMP; heap = [] }
 
+-- the farm of so many nodes before any event
 abbrev pub fresh : ℕ → State
 fresh nodes = record {
   clock = OPENING_STAMP;
@@ -254,19 +255,24 @@ Acts s (event.Collect n) = Collects s n (collect_answer (node_at s n) s.clock)
 abbrev pub Steps : State → Event → Answer → State → Type 0
 Steps s e told next = (Meets s e × Acts s e told next) ⊎ ((Meets s e → ⊥) × Gives answer.No s told next)
 
+-- an actor of the core
 abbrev pub IsActor : TxnId → Type 0
 IsActor t = (0 < t.actor) × (t.actor ≤ ACTOR_LIMIT)
 
+-- an address of a farm of so many nodes
 abbrev pub IsAddr : ℕ → Addr → Type 0
 IsAddr nodes a = (a.region < region_count * nodes) × (a.offset < width)
 
+-- the bytes of an object
 abbrev pub IsObject : Bytes → Type 0
 IsObject bytes = (0 < length bytes) × (length bytes ≤ OBJECT_LIMIT)
 
+-- what a lock waits to install: an object, or that it is freed
 abbrev pub IsNew : Option Bytes → Type 0
 IsNew None = Unit {0}
 IsNew (Some bytes) = IsObject bytes
 
+-- an event's actors, addresses, nodes and objects are those of the farm
 abbrev pub InRange : ℕ → Event → Type 0
 InRange nodes (event.Load a bytes) = IsAddr nodes a × IsObject bytes
 InRange nodes (event.Begin t) = IsActor t
