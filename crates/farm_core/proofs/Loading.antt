@@ -18,9 +18,6 @@ use Rattle.farm_core.proofs.Farming.{none_of, reached_more, stands_kept}
 first_loaded : (log : List Entry) (a : Addr) (bytes : Bytes) → IsFirst log → replay (log_loaded a bytes log) ≡ with_cell a (loaded_cell (replay log).floor bytes) (replay log)
 first_loaded log a bytes first = subst (λ (es : List Entry). replay (log_loaded a bytes es) ≡ with_cell a (loaded_cell (replay es).floor bytes) (replay es)) (sym first.1) refl
 
-first_floor : (log : List Entry) → IsFirst log → Lawful log → 0 < (replay log).floor
-first_floor log first lawful = subst (λ (es : List Entry). Lawful es → 0 < (replay es).floor) (sym first.1) (λ l. l.0.2) lawful
-
 module _ (farm : Farm) (s : State) (st : Stands farm s) (a : Addr) where
   g : Good s
   g = good s st.reached
@@ -53,7 +50,7 @@ module _ (farm : Farm) (s : State) (st : Stands farm s) (a : Addr) where
       log_first = (g.base.first (sym st.loading_is ∙ loading)).0 (home s a) less
 
       pub load_stamp : 0 < (plain_of old).floor
-      load_stamp = subst (λ (p : NodeState). 0 < p.floor) (sym here) (first_floor (s.logs (home s a)) log_first (g.base.lists (home s a) less).lawful)
+      load_stamp = subst (λ (p : NodeState). 0 < p.floor) (sym here) (subst (λ (es : List Entry). Lawful es → 0 < (replay es).floor) (sym log_first.1) (λ l. l.0.2) (g.base.lists (home s a) less).lawful)
 
       pub load_place : IsAddr (length farm.nodes.items) a → IsPlace (occupancy (plain_of old)) a
       load_place range = let l : Listed s.clock s.nodes (home s a) (s.logs (home s a)) = g.base.lists (home s a) less in
