@@ -1,17 +1,11 @@
 -- An event of an open transaction, whichever it is.
 use Rattle.std.proofs.Common.{◌≡◌, ℕ, ◌<◌, Bool, true, false, List, length, Result, Ok, Err, sym, refl, ◌∙◌, subst, inl, inr, arith}
 use Rattle.std.proofs.lemmas.Bool.{both_ways}
-use Rattle.a1_base.specs.declared.Memory.{Memory}
-use Rattle.a1_base.specs.declared.place.TxnId.{TxnId}
-use Rattle.farm_node.specs.declared.node.Node.{Node}
-use Rattle.farm_node.specs.Cell.{Bytes}
-use Rattle.farm_core.specs.declared.event.Event.{Event}
-use Rattle.farm_core.specs.declared.event.Event.TheVariants.{Alloc, Draw}
-use Rattle.farm_core.specs.declared.event.Answer.{Answer}
-use Rattle.farm_core.specs.declared.event.Answer.TheVariants.{No}
-use Rattle.farm_core.specs.declared.active.Active.{Active}
-use Rattle.farm_core.specs.Machine.{State, Meets, InRange}
-use Rattle.farm_core.specs.Standing.{Reached, At, AtClock, Acted, Stepped, ActsOn, CanAct, CanActAt, IsOf, meets_in}
+use Rattle.farm_core.proofs.Words.{Memory, TxnId, Node, Bytes, Event, Answer, Active, State, Meets, InRange, Reached, At, AtClock, Acted, Stepped, ActsOn}
+use Rattle.farm_core.proofs.Words.{CanAct, CanActAt, IsOf, meets_in}
+use Rattle.farm_core.specs.declared.event.Event.TheVariants as event
+use Rattle.farm_core.specs.declared.event.Answer.TheVariants as answer
+use Rattle.farm_core.proofs.Slots.{aside_self}
 use Rattle.farm_core.proofs.Conditions.{meets_iff}
 
 acted_clock : (z : Active) (nodes : List Node) (clock : ℕ) (t : TxnId) (s : State) (e : Event) (result : Result Answer Memory) → clock ≡ s.clock
@@ -19,33 +13,35 @@ acted_clock : (z : Active) (nodes : List Node) (clock : ℕ) (t : TxnId) (s : St
 acted_clock z nodes clock t s e (Ok x) is acted = (acted.0, acted.1, acted.2, record { standing = acted.3.0; clock_is = is ∙ sym acted.3.1 })
 acted_clock z nodes clock t s e (Err m) is acted = record { standing = acted.0; clock_is = is }
 
-pub acted_is : (x z : Active) (nodes after : List Node) (clock : ℕ) (t u : TxnId) (e f : Event) (result : Result Answer Memory) → e ≡ f → u ≡ t → ActsOn x nodes u f result z after
-    → (s : State) → Reached s → AtClock x nodes clock t s → Meets s e → Acted t s e result (AtClock z after clock t)
-acted_is x z nodes after clock t u e f result is own acts s r at meets =
-    let moved : ActsOn x nodes t e result z after = subst (λ (w : TxnId × Event). ActsOn x nodes w.0 w.1 result z after) (λ i. (own i, sym is i)) acts in
+pub acted_is : (x z : Active) (nodes after : List Node) (clock : ℕ) (u : TxnId) (e f : Event) (result : Result Answer Memory) → e ≡ f → ((t : TxnId) → IsOf t f → u ≡ t)
+    → ActsOn x nodes u f result z after → (t : TxnId) (s : State) → IsOf t e → Reached s → AtClock x nodes clock t s → Meets s e → Acted t s e result (AtClock z after clock t)
+acted_is x z nodes after clock u e f result is one acts t s own r at meets =
+    let same : u ≡ t = one t (subst (IsOf t) is own) in
+    let moved : ActsOn x nodes t e result z after = subst (λ (w : TxnId × Event). ActsOn x nodes w.0 w.1 result z after) (λ i. (same i, sym is i)) acts in
     acted_clock z after clock t s e result at.clock_is (moved s r at.standing meets)
 
 -- the same for a draw, which moves the clock
-pub drawn_is : (x z : Active) (nodes : List Node) (clock later_clock : ℕ) (t u : TxnId) (e : Event) (result : Result Answer Memory) → e ≡ Draw u → u ≡ t
-    → ((all : List Node) (s : State) → Reached s → AtClock x all clock u s → Meets s (Draw u) → Acted u s (Draw u) result (AtClock z all later_clock u))
-    → (s : State) → Reached s → AtClock x nodes clock t s → Meets s e → Acted t s e result (AtClock z nodes later_clock t)
-drawn_is x z nodes clock later_clock t u e result is own acts s r at meets =
-    subst (λ (w : TxnId × Event). AtClock x nodes clock w.0 s → Meets s w.1 → Acted w.0 s w.1 result (AtClock z nodes later_clock w.0)) (λ i. (own i, sym is i)) (acts nodes s r) at meets
+pub drawn_is : (x z : Active) (nodes : List Node) (clock later_clock : ℕ) (u : TxnId) (e : Event) (result : Result Answer Memory) → e ≡ event.Draw u
+    → ((all : List Node) (s : State) → Reached s → AtClock x all clock u s → Meets s (event.Draw u) → Acted u s (event.Draw u) result (AtClock z all later_clock u))
+    → (t : TxnId) (s : State) → IsOf t e → Reached s → AtClock x nodes clock t s → Meets s e → Acted t s e result (AtClock z nodes later_clock t)
+drawn_is x z nodes clock later_clock u e result is acts t s own r at meets =
+    let same : u ≡ t = subst (IsOf t) is own in
+    subst (λ (w : TxnId × Event). AtClock x nodes clock w.0 s → Meets s w.1 → Acted w.0 s w.1 result (AtClock z nodes later_clock w.0)) (λ i. (same i, sym is i)) (acts nodes s r) at meets
 
 pub can_act : (x : Active) (nodes : List Node) (clock : ℕ) (u : TxnId) (e f : Event) → CanActAt x nodes clock e → e ≡ f → ((t : TxnId) → IsOf t f → u ≡ t) → CanAct x nodes u f
 can_act x nodes clock u e f can is own =
     let same : u ≡ can.0 = own can.0 (subst (IsOf can.0) is can.2) in
     (can.1, can.3, subst (λ (t : TxnId). At x nodes t can.1) (sym same) can.4.standing, subst (Meets can.1) is can.5)
 
-pub can_draw : (x : Active) (nodes : List Node) (clock : ℕ) (u : TxnId) (e : Event) → CanActAt x nodes clock e → e ≡ Draw u
-    → (all : List Node) × (s : State) × Reached s × AtClock x all clock u s × Meets s (Draw u)
+pub can_draw : (x : Active) (nodes : List Node) (clock : ℕ) (u : TxnId) (e : Event) → CanActAt x nodes clock e → e ≡ event.Draw u
+    → (all : List Node) × (s : State) × Reached s × AtClock x all clock u s × Meets s (event.Draw u)
 can_draw x nodes clock u e can is =
     let same : u ≡ can.0 = subst (IsOf can.0) is can.2 in
     (nodes, can.1, can.3, subst (λ (t : TxnId). AtClock x nodes clock t can.1) (sym same) can.4, subst (Meets can.1) is can.5)
 
-pub node_is_there : (x : Active) (nodes : List Node) (clock : ℕ) (u : TxnId) (n : ℕ) (bytes : Bytes) (e : Event) → CanActAt x nodes clock e → e ≡ Alloc u n bytes → n < length nodes
+pub node_is_there : (x : Active) (nodes : List Node) (clock : ℕ) (u : TxnId) (n : ℕ) (bytes : Bytes) (e : Event) → CanActAt x nodes clock e → e ≡ event.Alloc u n bytes → n < length nodes
 node_is_there x nodes clock u n bytes e can is =
-    let range : InRange can.1.nodes (Alloc u n bytes) = subst (InRange can.1.nodes) is can.6 in
+    let range : InRange can.1.nodes (event.Alloc u n bytes) = subst (InRange can.1.nodes) is can.6 in
     let low : n < can.1.nodes = range.1 in
     let number : length nodes ≡ can.1.nodes = can.4.standing.nodes_stand.number in
     omega arith
@@ -67,10 +63,10 @@ module _ (x : Active) (nodes : List Node) (clock : ℕ) (t : TxnId) (e : Event) 
     by (Ok x) acted = (acted.0, inl (meets, acted.1), acted.2, acted.3)
     by (Err m) acted = acted
 
-  pub lacks : asked ≡ false → (s : State) → Reached s → AtClock x nodes clock t s → IsOf t e → Stepped t s e (Ok No) (AtClock x nodes clock t)
+  pub lacks : asked ≡ false → (s : State) → Reached s → AtClock x nodes clock t s → IsOf t e → Stepped t s e (Ok answer.No) (AtClock x nodes clock t)
   lacks fails s r at own = (
     s,
     inr (λ meets. both_ways asked fails (is ∙ (meets_iff s r t x nodes at.standing e own).1 meets), (refl, refl)),
-    record { nodes = refl; begins = refl; loading = refl; others = λ u other. refl; held = λ u a other held. held },
+    aside_self t s,
     at,
   )

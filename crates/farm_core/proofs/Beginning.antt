@@ -1,54 +1,34 @@
 -- A begin.
-use Rattle.std.proofs.Common.{◌≡◌, ℕ, ◌+◌, ◌<◌, ◌≤◌, max, eqb, cond, Bool, true, false, not, is_some, List, length, get_or, Option, Some, None, Ok, sym, refl, ap, ◌∙◌, subst, inl, inr, arith}
-use Rattle.std.proofs.Math.ListN.{set, length-set}
-use Rattle.std.proofs.lemmas.Bool.{and_parts, and_from, both_ways, eqb-true, eq-eqb, ne_eqb}
-use Rattle.a1_base.specs.declared.limits.TheConstants.{ACTOR_LIMIT}
-use Rattle.a1_base.specs.declared.place.Addr.{Addr}
-use Rattle.a1_base.specs.declared.place.TxnId.{TxnId}
-use Rattle.farm_node.specs.declared.hold.Hold.{Hold}
-use Rattle.farm_node.specs.declared.node.Node.{Node}
-use Rattle.farm_node.specs.declared.entry.Entry.{Entry}
-use Rattle.farm_node.specs.declared.entry.Entry.TheVariants.{Open as OpenEntry}
-use Rattle.farm_node.specs.Cell.{Cell}
-use Rattle.farm_node.specs.NodeState.{NodeState, Adds}
-use Rattle.a1_base.specs.Stamps.{IsStamp}
-use Rattle.farm_node.specs.Story.{story}
-use Rattle.farm_core.specs.declared.event.Event.TheVariants.{Begin}
-use Rattle.farm_core.specs.declared.event.Answer.TheVariants.{At as Begun, No}
-use Rattle.farm_core.specs.declared.active.Active.{Active}
-use Rattle.farm_core.specs.declared.farm.Slot.{Slot}
-use Rattle.farm_core.specs.declared.farm.Farm.{Farm}
-use Rattle.farm_core.specs.Machine.{begun_at, State, home, node_at, adding_to_all, moving, counting_begin, loading_over, HoldsLockAt, Meets, IsActor}
-use Rattle.farm_core.specs.Standing.{plains, NodesStand, StandsOpen, in_list}
-use Rattle.farm_core.specs.Farms.{OpenStands, SlotStands, Stands, StepsTo, AddsEach, may_begin}
+use Rattle.std.proofs.Common.{◌≡◌, ℕ, ◌+◌, ◌<◌, ◌≤◌, max, eqb, true, false, not, is_some, List, length, get_or, Option, Some, None, Ok, sym, refl, ap, ◌∙◌, subst, inl, inr, arith}
+use Rattle.std.proofs.Math.ListN.{set}
+use Rattle.std.proofs.lemmas.Bool.{not-true, and_parts, and_from, both_ways, cond-true, cond-false, eqb-true, eq-eqb, ne_eqb}
+use Rattle.farm_core.proofs.Words.{ACTOR_LIMIT, Addr, TxnId, Hold, Node, Entry, Cell, NodeState, Adds, story, Active, Slot, Farm, begun_at, State}
+use Rattle.farm_core.proofs.Words.{home, node_at, adding_to_all, moving, counting_begin, loading_over, HoldsLockAt, Meets, IsActor, plains, NodesStand}
+use Rattle.farm_core.proofs.Words.{StandsOpen, in_list, OpenStands, SlotStands, Stands, StepsTo, AddsEach, may_begin}
+use Rattle.farm_node.specs.declared.entry.Entry.TheVariants as entry
+use Rattle.farm_core.specs.declared.event.Event.TheVariants as event
+use Rattle.farm_core.specs.declared.event.Answer.TheVariants as answer
 use Rattle.farm_core.proofs.Held.{HasLock, HoldingCell}
-use Rattle.farm_core.proofs.Good.{Good, NoneOpen}
-use Rattle.farm_core.proofs.Changes.{good, self_moved, other_stays}
-use Rattle.farm_core.proofs.Farming.{reached_more, slot_kept, another, slots_after, each_added, held_each}
-
-none_is : (o : Option Active) → not (is_some o) ≡ true → o ≡ None
-none_is None is = refl
-none_is (Some x) is = absurd (cc)
+use Rattle.farm_core.proofs.Good.{Good, NoneOpen, self_moved, other_stays}
+use Rattle.farm_core.proofs.Changes.{good}
+use Rattle.farm_core.proofs.Farming.{none_of, reached_more, slot_of, stands_set, each_added, held_each}
 
 module _ (farm : Farm) (s : State) (st : Stands farm s) (t : TxnId) (actor : IsActor t) where
   g : Good s
   g = good s st.reached
 
-  pub clock_low : IsStamp farm.clock
-  clock_low = subst IsStamp (sym st.clock_is) g.base.clock.1
-
   module _ (slot : Slot) (there : slot ≡ get_or farm.slots.items t.actor slot) where
     slot_is : SlotStands slot t.actor s
-    slot_is = subst (λ (z : Slot). SlotStands z t.actor s) (sym there) (st.slots_stand t.actor slot actor.0 actor.1)
+    slot_is = slot_of farm s st t actor slot there
 
-    pub begin_meets : may_begin slot t.number ≡ true → Meets s (Begin t)
+    pub begin_meets : may_begin slot t.number ≡ true → Meets s (event.Begin t)
     begin_meets may =
         let z = and_parts (not (is_some slot.open)) (eqb (slot.begins + 1) t.number) may in (
-          subst (λ (o : Option Active). OpenStands o t.actor s) (none_is slot.open z.0) slot_is.current,
+          subst (λ (o : Option Active). OpenStands o t.actor s) (none_of slot.open (not-true _ z.0)) slot_is.current,
           sym (eqb-true (slot.begins + 1) t.number z.1) ∙ ap (λ (n : ℕ). n + 1) slot_is.begins,
         )
 
-    meets_begin : Meets s (Begin t) → may_begin slot t.number ≡ true
+    meets_begin : Meets s (event.Begin t) → may_begin slot t.number ≡ true
     meets_begin meets = and_from (not (is_some slot.open)) (eqb (slot.begins + 1) t.number) (by slot.open slot_is.current)
         (eq-eqb (slot.begins + 1) t.number (ap (λ (n : ℕ). n + 1) slot_is.begins ∙ sym meets.1)) where
           by : (o : Option Active) → OpenStands o t.actor s → not (is_some o) ≡ true
@@ -58,7 +38,7 @@ module _ (farm : Farm) (s : State) (st : Stands farm s) (t : TxnId) (actor : IsA
               let is_open : (s.transactions u).is_open ≡ true = now.0.is_open in
               absurd (both_ways (s.transactions u).is_open closed is_open)
 
-    pub begin_no : may_begin slot t.number ≡ false → StepsTo s (Begin t) (Ok No) (Stands farm)
+    pub begin_no : may_begin slot t.number ≡ false → StepsTo s (event.Begin t) (Ok answer.No) (Stands farm)
     begin_no may = (s, inr (λ meets. both_ways (may_begin slot t.number) may (meets_begin meets), (refl, refl)), st)
 
   -- each node can be pinned at the clock
@@ -72,23 +52,23 @@ module _ (farm : Farm) (s : State) (st : Stands farm s) (t : TxnId) (actor : IsA
       let high : t.actor ≤ ACTOR_LIMIT = actor.1 in
       (subst (λ (p : NodeState). t.actor ≤ p.actors) (sym is) (omega arith), ap (λ (p : NodeState). p.pins t.actor) is ∙ g.pins.none_at t.actor n less none)
 
-  module _ (meets : Meets s (Begin t)) where
-    abbrev entry : Entry
-    entry = OpenEntry t.actor s.clock s.clock
+  module _ (meets : Meets s (event.Begin t)) where
+    abbrev new_entry : Entry
+    new_entry = entry.Open t.actor s.clock s.clock
 
     abbrev begun : State
-    begun = loading_over (moving t (λ x. begun_at s.clock) (counting_begin t.actor (adding_to_all (OpenEntry t.actor s.clock s.clock) s)))
+    begun = loading_over (moving t (λ x. begun_at s.clock) (counting_begin t.actor (adding_to_all (entry.Open t.actor s.clock s.clock) s)))
 
-    adds_entry : (nodes later : List Node) → nodes ≡ farm.nodes.items → AddsEach (λ p. OpenEntry t.actor farm.clock (max farm.clock p.floor)) nodes later → (n : ℕ) → n < s.nodes → Adds (plains farm.nodes.items n) entry (plains later n)
+    adds_entry : (nodes later : List Node) → nodes ≡ farm.nodes.items → AddsEach (λ p. entry.Open t.actor farm.clock (max farm.clock p.floor)) nodes later → (n : ℕ) → n < s.nodes → Adds (plains farm.nodes.items n) new_entry (plains later n)
     adds_entry nodes later same adds n less =
         let number : length nodes ≡ s.nodes = ap length same ∙ st.nodes_stand.number in
         let is : plains nodes n ≡ node_at s n = ap (λ (ns : List Node). plains ns n) same ∙ st.nodes_stand.each n less in
         let floor : (node_at s n).floor ≤ s.clock = (g.base.lists n less).low.floor in
         let pin : max farm.clock (plains nodes n).floor ≡ s.clock = (λ i. max (st.clock_is i) (is i).floor) ∙ (let top : max s.clock (node_at s n).floor ≡ s.clock = omega arith in top) in
-        subst (λ (z : List Node × ℕ × ℕ). Adds (plains z.0 n) (OpenEntry t.actor z.1 z.2) (plains later n)) (λ i. (same i, st.clock_is i, pin i)) (adds n (omega arith))
+        subst (λ (z : List Node × ℕ × ℕ). Adds (plains z.0 n) (entry.Open t.actor z.1 z.2) (plains later n)) (λ i. (same i, st.clock_is i, pin i)) (adds n (omega arith))
 
     held_none : (u : TxnId) (a : Addr) → HoldsLockAt begun u a → HoldsLockAt s u a
-    held_none u a held = held_each s g entry u a (λ takes. takes) held
+    held_none u a held = held_each s g new_entry (λ v b takes. takes) u a held
 
     -- it holds nothing yet
     none_held : (a : Addr) → HoldsLockAt s t a → ⊥
@@ -99,7 +79,7 @@ module _ (farm : Farm) (s : State) (st : Stands farm s) (t : TxnId) (actor : IsA
         both_ways (s.transactions t).is_open (meets.0 t refl) is_open
 
     number_is : t.number ≡ begun.begins t.actor
-    number_is = meets.1 ∙ sym (ap (λ (b : Bool). cond b (s.begins t.actor + 1) (s.begins t.actor)) (eq-eqb t.actor t.actor refl))
+    number_is = meets.1 ∙ sym (cond-true (eqb t.actor t.actor) _ _ (eq-eqb t.actor t.actor refl))
 
     own_slot : (x : Active) → StandsOpen x (begun_at s.clock) → SlotStands (record { begins = t.number; «open» = Some x }) t.actor begun
     own_slot x open_now = record {
@@ -109,22 +89,18 @@ module _ (farm : Farm) (s : State) (st : Stands farm s) (t : TxnId) (actor : IsA
     }
 
     pub begin_stands : (x : Active) (nodes later : List Node) (after : Farm) → StandsOpen x (begun_at farm.clock) → nodes ≡ farm.nodes.items → length later ≡ length nodes
-        → AddsEach (λ p. OpenEntry t.actor farm.clock (max farm.clock p.floor)) nodes later
+        → AddsEach (λ p. entry.Open t.actor farm.clock (max farm.clock p.floor)) nodes later
         → after.nodes.items ≡ later → after.clock ≡ farm.clock → after.loading ≡ false → after.slots.items ≡ set farm.slots.items t.actor (record { begins = t.number; «open» = Some x })
-        → StepsTo s (Begin t) (Ok (Begun farm.clock)) (Stands after)
+        → StepsTo s (event.Begin t) (Ok (answer.At farm.clock)) (Stands after)
     begin_stands x nodes later after open_now same number adds nodes_are clock_is loading_is slots_are = (
       begun,
-      inl (meets, (ap Begun st.clock_is, refl)),
-      record {
-        reached = reached_more s (Begin t) (Begun s.clock) begun st.reached actor (inl (meets, (refl, refl))) refl;
-        clock_is = clock_is ∙ st.clock_is;
-        loading_is = loading_is;
-        nodes_stand = subst (λ (ns : List Node). NodesStand ns begun.nodes begun.logs) (sym nodes_are)
-            (each_added s g entry farm.nodes.items later st.nodes_stand (number ∙ ap length same) (adds_entry nodes later same adds));
-        count = ap length slots_are ∙ (length-set farm.slots.items t.actor _ ∙ st.count);
-        slots_stand = subst (λ (all : List Slot). (k : ℕ) (d : Slot) → 0 < k → k ≤ ACTOR_LIMIT → SlotStands (get_or all k d) k begun) (sym slots_are)
-            (slots_after farm s st t actor (record { begins = t.number; «open» = Some x }) begun (own_slot x (subst (λ (n : ℕ). StandsOpen x (begun_at n)) st.clock_is open_now))
-            (λ k old differ was. slot_kept old k s begun (ap (λ (b : Bool). cond b (s.begins k + 1) (s.begins k)) (ne_eqb t.actor k differ))
-            (λ u is. other_stays t u (begun_at s.clock) s.transactions (another t u k differ is)) (λ u a is. held_none u a) was));
-      },
+      inl (meets, (ap answer.At st.clock_is, refl)),
+      stands_set farm s st t actor after begun _ (reached_more s (event.Begin t) (answer.At s.clock) begun st.reached actor (inl (meets, (refl, refl))) refl) (clock_is ∙ st.clock_is) loading_is
+          (subst (λ (ns : List Node). NodesStand ns begun.nodes begun.logs) (sym nodes_are)
+          (each_added s g new_entry farm.nodes.items later st.nodes_stand (number ∙ ap length same) (adds_entry nodes later same adds)))
+          slots_are
+          (own_slot x (subst (λ (n : ℕ). StandsOpen x (begun_at n)) st.clock_is open_now))
+          (λ k differ. cond-false (eqb t.actor k) _ _ (ne_eqb t.actor k differ))
+          (λ u. other_stays t u (begun_at s.clock) s.transactions)
+          (λ u a other. held_none u a),
     )

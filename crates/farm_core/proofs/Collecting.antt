@@ -1,49 +1,29 @@
 -- A collection.
-use Rattle.std.proofs.Common.{◌≡◌, ℕ, ◌<◌, ◌≤◌, false, List, length, get_or, Ok, sym, refl, ap, ◌∙◌, subst, inl, ⊎_elim, arith}
+use Rattle.std.proofs.Common.{◌≡◌, ℕ, ◌<◌, false, List, length, get_or, Ok, sym, refl, ap, ◌∙◌, subst, inl, ⊎_elim, arith}
 use Rattle.std.proofs.Math.ListN.{set}
-use Rattle.a1_base.specs.declared.limits.TheConstants.{ACTOR_LIMIT, COLLECTOR_ACTOR}
-use Rattle.a1_base.specs.declared.place.Addr.{Addr}
-use Rattle.a1_base.specs.declared.place.TxnId.{TxnId}
-use Rattle.farm_node.specs.declared.node.Node.{Node}
-use Rattle.farm_node.specs.declared.entry.Collected.{Collected as Removed}
-use Rattle.farm_node.specs.declared.entry.Entry.{Entry}
-use Rattle.farm_node.specs.declared.entry.Entry.TheVariants.{Collect as CollectEntry}
-use Rattle.farm_node.specs.NodeState.{Adds, collect_answer}
-use Rattle.a1_base.specs.Stamps.{IsStamp}
-use Rattle.farm_node.specs.Node.{plain_of}
-use Rattle.farm_core.specs.declared.event.Event.TheVariants.{Collect}
-use Rattle.farm_core.specs.declared.event.Answer.TheVariants.{Collected}
-use Rattle.farm_core.specs.declared.farm.Slot.{Slot}
-use Rattle.farm_core.specs.declared.farm.Farm.{Farm}
-use Rattle.farm_core.specs.Machine.{State, node_at, adding, loading_over, HoldsLockAt, Collects}
-use Rattle.farm_core.specs.Standing.{NodesStand}
-use Rattle.farm_core.specs.Farms.{SlotStands, Stands, StepsTo}
+use Rattle.farm_core.proofs.Words.{COLLECTOR_ACTOR, Node, Collected, Entry, Adds, collect_answer, plain_of, Farm}
+use Rattle.farm_core.proofs.Words.{State, node_at, adding, loading_over, Collects, NodesStand, Stands, StepsTo}
+use Rattle.farm_node.specs.declared.entry.Entry.TheVariants as entry
+use Rattle.farm_core.specs.declared.event.Event.TheVariants as event
+use Rattle.farm_core.specs.declared.event.Answer.TheVariants as answer
 use Rattle.farm_core.proofs.Good.{Good}
 use Rattle.farm_core.proofs.Changes.{good, old_is, nodes_written, held_adding}
-use Rattle.farm_core.proofs.Farming.{reached_more, slot_kept}
+use Rattle.farm_core.proofs.Farming.{reached_more, stands_kept}
 
 module _ (farm : Farm) (s : State) (st : Stands farm s) where
   g : Good s
   g = good s st.reached
 
-  pub stamp_low : IsStamp farm.clock
-  stamp_low = subst IsStamp (sym st.clock_is) g.base.clock.1
-
-  pub collect_stands : (n : ℕ) (old v : Node) (removed : Removed) (after : Farm) → n < length farm.nodes.items → old ≡ get_or farm.nodes.items n old → Adds (plain_of old) (CollectEntry COLLECTOR_ACTOR farm.clock removed) (plain_of v)
+  pub collect_stands : (n : ℕ) (old v : Node) (removed : Collected) (after : Farm) → n < length farm.nodes.items → old ≡ get_or farm.nodes.items n old → Adds (plain_of old) (entry.Collect COLLECTOR_ACTOR farm.clock removed) (plain_of v)
       → after.nodes.items ≡ set farm.nodes.items n v → after.clock ≡ farm.clock → after.loading ≡ false → after.slots.items ≡ farm.slots.items
-      → StepsTo s (Collect n) (Ok (Collected removed.floor removed.versions removed.objects)) (Stands after)
+      → StepsTo s (event.Collect n) (Ok (answer.Collected removed.floor removed.versions removed.objects)) (Stands after)
   collect_stands n old v removed after low there adds nodes_are clock_is loading_is slots_are = (
     later,
     inl (tt, acts),
-    record {
-      reached = reached_more s (Collect n) (Collected removed.floor removed.versions removed.objects) later st.reached less (inl (tt, acts)) refl;
-      clock_is = clock_is ∙ st.clock_is;
-      loading_is = loading_is;
-      nodes_stand = subst (λ (ns : List Node). NodesStand ns later.nodes later.logs) (sym nodes_are) (nodes_written s g farm.nodes.items st.nodes_stand n old v less e adds_it);
-      count = ap length slots_are ∙ st.count;
-      slots_stand = subst (λ (all : List Slot). (k : ℕ) (d : Slot) → 0 < k → k ≤ ACTOR_LIMIT → SlotStands (get_or all k d) k later) (sym slots_are)
-          (λ k d low high. slot_kept (get_or farm.slots.items k d) k s later refl (λ u is. refl) (λ u a is. held u a) (st.slots_stand k d low high));
-    },
+    stands_kept farm s st after later (reached_more s (event.Collect n) (answer.Collected removed.floor removed.versions removed.objects) later st.reached less (inl (tt, acts)) refl)
+        (clock_is ∙ st.clock_is) loading_is
+        (subst (λ (ns : List Node). NodesStand ns later.nodes later.logs) (sym nodes_are) (nodes_written s g farm.nodes.items st.nodes_stand n old v less e adds_it))
+        slots_are refl refl (λ u a has. ⊎_elim (λ before. before) (λ takes. absurd takes) (held_adding s g n e u a has)),
   ) where
     less : n < s.nodes
     less = let number : length farm.nodes.items ≡ s.nodes = st.nodes_stand.number in omega arith
@@ -52,19 +32,14 @@ module _ (farm : Farm) (s : State) (st : Stands farm s) where
     given_is = ap plain_of there ∙ old_is s g farm.nodes.items st.nodes_stand n old old less
 
     e : Entry
-    e = CollectEntry COLLECTOR_ACTOR s.clock removed
+    e = entry.Collect COLLECTOR_ACTOR s.clock removed
 
     later : State
-    later = loading_over (adding n (CollectEntry COLLECTOR_ACTOR s.clock removed) s)
+    later = loading_over (adding n (entry.Collect COLLECTOR_ACTOR s.clock removed) s)
 
     adds_it : Adds (plain_of (get_or farm.nodes.items n old)) e (plain_of v)
-    adds_it = subst (λ (z : Node × ℕ). Adds (plain_of z.0) (CollectEntry COLLECTOR_ACTOR z.1 removed) (plain_of v)) (λ i. (there i, st.clock_is i)) adds
+    adds_it = subst (λ (z : Node × ℕ). Adds (plain_of z.0) (entry.Collect COLLECTOR_ACTOR z.1 removed) (plain_of v)) (λ i. (there i, st.clock_is i)) adds
 
-    due : removed ≡ collect_answer (node_at s n) s.clock
-    due = adds.fits.2 ∙ (λ i. collect_answer (given_is i) (st.clock_is i))
-
-    acts : Collects s n (collect_answer (node_at s n) s.clock) (Collected removed.floor removed.versions removed.objects) later
-    acts = subst (λ (w : Removed). Collects s n w (Collected removed.floor removed.versions removed.objects) later) due (refl, refl)
-
-    held : (u : TxnId) (a : Addr) → HoldsLockAt later u a → HoldsLockAt s u a
-    held u a has = ⊎_elim (λ before. before) (λ takes. absurd takes) (held_adding s g n e less u a has)
+    acts : Collects s n (collect_answer (node_at s n) s.clock) (answer.Collected removed.floor removed.versions removed.objects) later
+    acts = subst (λ (w : Collected). Collects s n w (answer.Collected removed.floor removed.versions removed.objects) later)
+        (adds.fits.2 ∙ (λ i. collect_answer (given_is i) (st.clock_is i))) (refl, refl)

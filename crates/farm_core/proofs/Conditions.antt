@@ -1,80 +1,51 @@
 -- What is asked of an open transaction and its nodes is the event's condition.
-use Rattle.std.proofs.Common.{◌≡◌, ◌⊎◌, ◌↔◌, ℕ, ◌%◌, ◌<◌, Bool, true, false, not, ◌&&◌, ◌||◌, List, [], ◌∷◌, IsTrue, sym, refl, ap, ◌∙◌, subst, inl, inr, ⊎_elim, arith}
-use Rattle.std.proofs.lemmas.Bool.{and_parts, and_from, not-true, or_cases, both_ways}
-use Rattle.a1_base.specs.declared.place.Addr.{Addr}
-use Rattle.a1_base.specs.declared.place.TxnId.{TxnId}
-use Rattle.farm_node.specs.declared.node.Node.{Node}
-use Rattle.farm_node.specs.NodeState.{NodeState}
-use Rattle.farm_node.specs.State.{holds_there, may_lock}
-use Rattle.farm_node.specs.Story.{story}
+use Rattle.std.proofs.Common.{◌≡◌, ◌⊎◌, ◌↔◌, ℕ, ◌%◌, Bool, true, false, not, ◌&&◌, ◌||◌, List, [], ◌∷◌, IsTrue, sym, refl, ap, ◌∙◌, subst, inl, inr, ⊎_elim}
+use Rattle.std.proofs.lemmas.Bool.{and_parts, and_from, not-true, not-false, not_from_false, false_from_ne_true, or_cases, or_left, or_right, both_ways}
+use Rattle.farm_core.proofs.Words.{Stage, MayLock, Addr, TxnId, Node, NodeState, holds_there, may_lock, Event, Phase, Active, Reading, Drawn, Installing, Refused}
+use Rattle.farm_core.proofs.Words.{Transaction, State, home, node_of, IsAt, HoldsLockAt, HoldsLock, AllSame, Meets, read_set, all_checked, Reached, plains}
+use Rattle.farm_core.proofs.Words.{plain_at, stage_of, in_list, At, IsOf, is_reading, is_drawn, is_installing, holds_at, may_lock_at, is_none, meets_in}
 use Rattle.farm_node.proofs.Addresses.{same_self}
-use Rattle.farm_core.specs.declared.event.Event.{Event}
-use Rattle.farm_core.specs.declared.event.Event.TheVariants.{Load, Begin, Read, Alloc, Lock, Draw, Check, Put, Unlock, Shut, Collect}
-use Rattle.farm_core.specs.declared.active.Phase.{Phase}
+use Rattle.farm_core.specs.declared.event.Event.TheVariants as event
 use Rattle.farm_core.specs.declared.active.Phase.TheVariants as phase
-use Rattle.farm_core.specs.declared.active.Active.{Active}
-use Rattle.farm_core.specs.Machine.{Reading, Drawn, Installing, Refused, Transaction, State, home, node_of, IsAt, HoldsLockAt, HoldsLock, AllSame, Meets}
-use Rattle.farm_core.specs.ReadSets.{read_set, all_checked}
-use Rattle.farm_core.specs.Standing.{Reached, plains, plain_at, stage_of, in_list, At, IsOf, is_reading, is_drawn, is_installing, holds_at, may_lock_at, is_none, meets_in}
-use Rattle.farm_core.proofs.Held.{HasPut, holds_held}
 use Rattle.farm_core.proofs.Good.{Good}
-use Rattle.farm_core.proofs.Phases.{open_stage}
-use Rattle.farm_core.proofs.Events.{less_home}
+use Rattle.farm_core.proofs.Events.{less_home, locked_held}
 use Rattle.farm_node.proofs.Holders.{holds_iff, may_iff}
 use Rattle.farm_core.proofs.Changes.{good}
 use Rattle.farm_core.proofs.Sets.{none_left, left_none}
 
-reading_to : (p : Phase) → is_reading p ≡ true → stage_of p ≡ Reading
-reading_to phase.Reading is = refl
-reading_to phase.Drawn is = absurd (cc)
-reading_to phase.Installing is = absurd (cc)
-reading_to phase.Refused is = absurd (cc)
+and_iff : {P Q : Type 0} (b l : Bool) → IsTrue b ↔ P → IsTrue l ↔ Q → IsTrue (b && l) ↔ (P × Q)
+and_iff b l first second = (λ is. let z = and_parts b l is in (first.0 z.0, second.0 z.1), λ both. and_from b l (first.1 both.0) (second.1 both.1))
 
-reading_from : (p : Phase) → stage_of p ≡ Reading → is_reading p ≡ true
-reading_from phase.Reading is = refl
-reading_from phase.Drawn is = absurd (cc)
-reading_from phase.Installing is = absurd (cc)
-reading_from phase.Refused is = absurd (cc)
+or_iff : {P Q : Type 0} (b l : Bool) → IsTrue b ↔ P → IsTrue l ↔ Q → IsTrue (b || l) ↔ (P ⊎ Q)
+or_iff b l first second = (
+  λ is. ⊎_elim (λ z. inl (first.0 z)) (λ z. inr (second.0 z)) (or_cases b l is),
+  λ one. ⊎_elim (λ z. or_left b l (first.1 z)) (λ z. or_right b l (second.1 z)) one,
+)
 
-drawn_to : (p : Phase) → is_drawn p ≡ true → stage_of p ≡ Drawn
-drawn_to phase.Reading is = absurd (cc)
-drawn_to phase.Drawn is = refl
-drawn_to phase.Installing is = absurd (cc)
-drawn_to phase.Refused is = absurd (cc)
+not_iff : {P : Type 0} (b : Bool) → IsTrue b ↔ P → IsTrue (not b) ↔ (P → ⊥)
+not_iff b says = (λ is p. both_ways b (not-true b is) (says.1 p), λ none. not_from_false b (false_from_ne_true b (λ is. none (says.0 is))))
 
-drawn_from : (p : Phase) → stage_of p ≡ Drawn → is_drawn p ≡ true
-drawn_from phase.Reading is = absurd (cc)
-drawn_from phase.Drawn is = refl
-drawn_from phase.Installing is = absurd (cc)
-drawn_from phase.Refused is = absurd (cc)
+reading_iff : (p : Phase) → IsTrue (is_reading p) ↔ (stage_of p ≡ Reading)
+reading_iff phase.Reading = (λ is. refl, λ is. refl)
+reading_iff p = (λ is. absurd (cc), λ is. absurd (cc))
 
-installing_to : (p : Phase) → is_installing p ≡ true → stage_of p ≡ Installing
-installing_to phase.Reading is = absurd (cc)
-installing_to phase.Drawn is = absurd (cc)
-installing_to phase.Installing is = refl
-installing_to phase.Refused is = absurd (cc)
+drawn_iff : (p : Phase) → IsTrue (is_drawn p) ↔ (stage_of p ≡ Drawn)
+drawn_iff phase.Drawn = (λ is. refl, λ is. refl)
+drawn_iff p = (λ is. absurd (cc), λ is. absurd (cc))
 
-installing_from : (p : Phase) → stage_of p ≡ Installing → is_installing p ≡ true
-installing_from phase.Reading is = absurd (cc)
-installing_from phase.Drawn is = absurd (cc)
-installing_from phase.Installing is = refl
-installing_from phase.Refused is = absurd (cc)
+installing_iff : (p : Phase) → IsTrue (is_installing p) ↔ (stage_of p ≡ Installing)
+installing_iff phase.Installing = (λ is. refl, λ is. refl)
+installing_iff p = (λ is. absurd (cc), λ is. absurd (cc))
 
-others_to : (p : Phase) → not (is_installing p) ≡ true → (stage_of p ≡ Reading) ⊎ ((stage_of p ≡ Drawn) ⊎ (stage_of p ≡ Refused))
-others_to phase.Reading is = inl refl
-others_to phase.Drawn is = inr (inl refl)
-others_to phase.Installing is = absurd (cc)
-others_to phase.Refused is = inr (inr refl)
+refused_iff : (p : Phase) → IsTrue (not (is_reading p || (is_drawn p || is_installing p))) ↔ (stage_of p ≡ Refused)
+refused_iff phase.Refused = (λ is. refl, λ is. refl)
+refused_iff p = (λ is. absurd (cc), λ is. absurd (cc))
 
-others_from : (p : Phase) → (stage_of p ≡ Reading) ⊎ ((stage_of p ≡ Drawn) ⊎ (stage_of p ≡ Refused)) → not (is_installing p) ≡ true
-others_from phase.Reading is = refl
-others_from phase.Drawn is = refl
-others_from phase.Installing is = absurd (⊎_elim (λ first. cc) (λ more. ⊎_elim (λ second. cc) (λ third. cc) more) is)
-others_from phase.Refused is = refl
-
-not_from : (b : Bool) → (b ≡ true → ⊥) → not b ≡ true
-not_from true none = absurd (none refl)
-not_from false none = refl
+not_installing : (p : Phase) → not (is_installing p) ≡ (is_reading p || (is_drawn p || not (is_reading p || (is_drawn p || is_installing p))))
+not_installing phase.Reading = refl
+not_installing phase.Drawn = refl
+not_installing phase.Installing = refl
+not_installing phase.Refused = refl
 
 module _ (s : State) (r : Reached s) (t : TxnId) (x : Active) (nodes : List Node) (at : At x nodes t s) where
   abbrev y : Transaction
@@ -86,72 +57,30 @@ module _ (s : State) (r : Reached s) (t : TxnId) (x : Active) (nodes : List Node
   plain_is : (a : Addr) → plain_at nodes a ≡ node_of s a
   plain_is a = ap (λ (k : ℕ). plains nodes (a.region % k)) at.nodes_stand.number ∙ at.nodes_stand.each (home s a) (less_home s g a)
 
-  pub holds_to : (a : Addr) → holds_at nodes t a ≡ true → HoldsLockAt s t a
-  holds_to a is = (holds_iff (node_of s a) t a).0 (ap (λ (p : NodeState). holds_there t (p.cells a)) (sym (plain_is a)) ∙ is)
+  pub holding_iff : (a : Addr) → IsTrue (holds_at nodes t a) ↔ HoldsLockAt s t a
+  holding_iff a = subst (λ (p : NodeState). IsTrue (holds_there t (p.cells a)) ↔ HoldsLockAt s t a) (sym (plain_is a)) (holds_iff (node_of s a) t a)
 
-  pub holds_from : (a : Addr) → HoldsLockAt s t a → holds_at nodes t a ≡ true
-  holds_from a held = ap (λ (p : NodeState). holds_there t (p.cells a)) (plain_is a) ∙ (holds_iff (node_of s a) t a).1 held
+  at_iff : (stage : Stage) (b : Bool) → IsTrue b ↔ (stage_of x.phase ≡ stage) → IsTrue b ↔ IsAt stage s t
+  at_iff stage b says = (λ is. (at.active.is_open, sym at.active.stage ∙ says.0 is), λ is. says.1 (at.active.stage ∙ is.1))
 
-  free_to : (a : Addr) → not (holds_at nodes t a) ≡ true → HoldsLockAt s t a → ⊥
-  free_to a is held = both_ways (holds_at nodes t a) (not-true (holds_at nodes t a) is) (holds_from a held)
+  is_reading_iff : IsTrue (is_reading x.phase) ↔ IsAt Reading s t
+  is_reading_iff = at_iff Reading (is_reading x.phase) (reading_iff x.phase)
 
-  free_from : (a : Addr) → (HoldsLockAt s t a → ⊥) → not (holds_at nodes t a) ≡ true
-  free_from a free = not_from (holds_at nodes t a) (λ is. free (holds_to a is))
+  is_drawn_iff : IsTrue (is_drawn x.phase) ↔ IsAt Drawn s t
+  is_drawn_iff = at_iff Drawn (is_drawn x.phase) (drawn_iff x.phase)
 
-  is_reading_to : is_reading x.phase ≡ true → IsAt Reading s t
-  is_reading_to is = (at.active.is_open, sym at.active.stage ∙ reading_to x.phase is)
+  going_iff : IsTrue (is_drawn x.phase || is_installing x.phase) ↔ (IsAt Drawn s t ⊎ IsAt Installing s t)
+  going_iff = or_iff (is_drawn x.phase) (is_installing x.phase) is_drawn_iff (at_iff Installing (is_installing x.phase) (installing_iff x.phase))
 
-  is_reading_from : IsAt Reading s t → is_reading x.phase ≡ true
-  is_reading_from is = reading_from x.phase (at.active.stage ∙ is.1)
-
-  is_drawn_to : is_drawn x.phase ≡ true → IsAt Drawn s t
-  is_drawn_to is = (at.active.is_open, sym at.active.stage ∙ drawn_to x.phase is)
-
-  is_drawn_from : IsAt Drawn s t → is_drawn x.phase ≡ true
-  is_drawn_from is = drawn_from x.phase (at.active.stage ∙ is.1)
-
-  going_to : (is_drawn x.phase || is_installing x.phase) ≡ true → IsAt Drawn s t ⊎ IsAt Installing s t
-  going_to is = ⊎_elim (λ drawn. inl (is_drawn_to drawn)) (λ more. inr (at.active.is_open, sym at.active.stage ∙ installing_to x.phase more)) (or_cases (is_drawn x.phase) (is_installing x.phase) is)
-
-  going_from : IsAt Drawn s t ⊎ IsAt Installing s t → (is_drawn x.phase || is_installing x.phase) ≡ true
-  going_from is = ⊎_elim
-      (λ drawn. ap (λ (b : Bool). b || is_installing x.phase) (is_drawn_from drawn))
-      (λ more. right (is_drawn x.phase) (is_installing x.phase) (installing_from x.phase (at.active.stage ∙ more.1)))
-      is where
-        right : (b l : Bool) → l ≡ true → (b || l) ≡ true
-        right true l is = refl
-        right false l is = is
-
-  stage_to : not (is_installing x.phase) ≡ true → IsAt Reading s t ⊎ (IsAt Drawn s t ⊎ IsAt Refused s t)
-  stage_to is = ⊎_elim
-      (λ z. inl (at.active.is_open, sym at.active.stage ∙ z))
-      (λ more. ⊎_elim (λ z. inr (inl (at.active.is_open, sym at.active.stage ∙ z))) (λ z. inr (inr (at.active.is_open, sym at.active.stage ∙ z))) more)
-      (others_to x.phase is)
-
-  stage_from : IsAt Reading s t ⊎ (IsAt Drawn s t ⊎ IsAt Refused s t) → not (is_installing x.phase) ≡ true
-  stage_from is = others_from x.phase (⊎_elim
-      (λ z. inl (at.active.stage ∙ z.1))
-      (λ more. ⊎_elim (λ z. inr (inl (at.active.stage ∙ z.1))) (λ z. inr (inr (at.active.stage ∙ z.1))) more)
-      is)
+  left_iff : IsTrue (not (is_installing x.phase)) ↔ (IsAt Reading s t ⊎ (IsAt Drawn s t ⊎ IsAt Refused s t))
+  left_iff = subst (λ (b : Bool). IsTrue b ↔ (IsAt Reading s t ⊎ (IsAt Drawn s t ⊎ IsAt Refused s t))) (sym (not_installing x.phase))
+      (or_iff (is_reading x.phase) _ is_reading_iff (or_iff (is_drawn x.phase) _ is_drawn_iff (at_iff Refused _ (refused_iff x.phase))))
 
   -- the locks of a reading transaction
 
-  locked_held : IsAt Reading s t → (a : Addr) → y.had_locked a ≡ true → HoldsLockAt s t a
-  locked_held going a locked =
-      let h = g.base.held t ((g.base.sane t).begun (open_stage s g t going.0)).0 a in
-      ⊎_elim
-      (λ holds. holds_held (node_of s a) t a holds)
-      (λ put. absurd (none_put put))
-      (h.locked locked (λ refused. let at_reading : y.stage ≡ Reading = going.1 in cc)) where
-        none_put : (HasPut t (story a (s.logs (home s a))).puts) → ⊥
-        none_put put =
-            let drawn : 0 < y.write_stamp = ((g.base.held t ((g.base.sane t).begun (open_stage s g t going.0)).0 a).puts put.0 put.1 put.2).drawn in
-            let undrawn : y.write_stamp ≡ 0 = ((g.base.sane t).undrawn going.1).0 in
-            omega arith
-
   some_to : IsAt Reading s t → (all : List Addr) → ((a : Addr) → in_list a all ≡ true → y.had_locked a ≡ true) → not (is_none all) ≡ true → HoldsLock s t
   some_to going [] locked is = absurd (cc)
-  some_to going (b ∷ more) locked is = (b, locked_held going b (locked b (ap (λ (k : Bool). k || in_list b more) (same_self b))))
+  some_to going (b ∷ more) locked is = (b, locked_held s g t b going (locked b (or_left _ _ (same_self b))))
 
   some_from : (a : Addr) (all : List Addr) → in_list a all ≡ true → not (is_none all) ≡ true
   some_from a [] there = absurd (cc)
@@ -159,76 +88,44 @@ module _ (s : State) (r : Reached s) (t : TxnId) (x : Active) (nodes : List Node
 
   -- what was read
 
-  same_to : all_checked x.reads ≡ true → AllSame y
-  same_to is a has free = by (y.has_read a) (y.had_locked a) (y.is_same a) (sym (ap (λ (m : Addr → Bool). m a) at.active.unchecked) ∙ none_left x.reads.unchecked is a) has free where
-    by : (b l m : Bool) → (b && not (l || m)) ≡ false → b ≡ true → l ≡ false → m ≡ true
-    by true true m none has free = absurd (cc)
-    by true false true none has free = refl
-    by true false false none has free = absurd (cc)
-    by false l m none has free = absurd (cc)
+  read_iff : (a : Addr) → IsTrue ((read_set x.reads).read a) ↔ (y.has_read a ≡ true)
+  read_iff a = subst (λ (m : Addr → Bool). IsTrue ((read_set x.reads).read a) ↔ (m a ≡ true)) at.active.reads (λ is. is, λ is. is)
 
-  same_from : AllSame y → all_checked x.reads ≡ true
-  same_from same = left_none x.reads.unchecked (λ a. ap (λ (m : Addr → Bool). m a) at.active.unchecked ∙ by (y.has_read a) (y.had_locked a) (y.is_same a) (same a)) where
-    by : (b l m : Bool) → (b ≡ true → l ≡ false → m ≡ true) → (b && not (l || m)) ≡ false
-    by true true m all = refl
-    by true false m all = ap not (all refl refl)
-    by false l m all = refl
+  unchecked_iff : (b l m : Bool) → ((b && not (l || m)) ≡ false) ↔ (b ≡ true → l ≡ false → m ≡ true)
+  unchecked_iff true true m = (λ none has free. absurd (cc), λ all. refl)
+  unchecked_iff true false m = (λ none has free. not-false m none, λ all. ap not (all refl refl))
+  unchecked_iff false l m = (λ none has free. absurd (cc), λ all. refl)
 
-  meets_own : (e : Event) → IsOf t e → meets_in x nodes t e ≡ true → Meets s e
-  meets_own (Load a bytes) own is = absurd own
-  meets_own (Begin u) own is = absurd own
-  meets_own (Read u a) own is =
-      let z = and_parts (is_reading x.phase) (not (holds_at nodes t a)) is in
-      subst (λ (w : TxnId). Meets s (Read w a)) (sym own) (is_reading_to z.0, free_to a z.1)
-  meets_own (Alloc u n bytes) own is = subst (λ (w : TxnId). Meets s (Alloc w n bytes)) (sym own) (is_reading_to is)
-  meets_own (Lock u a new) own is =
-      let z = and_parts (is_reading x.phase) (may_lock_at nodes t a x.read_stamp) is in
-      subst (λ (w : TxnId). Meets s (Lock w a new)) (sym own)
-      (is_reading_to z.0, (may_iff (node_of s a) t a y.read_stamp).0 ((λ i. may_lock t (sym at.active.read_stamp i) ((sym (plain_is a) i).cells a)) ∙ z.1))
-  meets_own (Draw u) own is =
-      let z = and_parts (is_reading x.phase) (not (is_none x.locked.items)) is in
-      subst (λ (w : TxnId). Meets s (Draw w)) (sym own) (is_reading_to z.0, some_to (is_reading_to z.0) x.locked.items at.active.locked z.1)
-  meets_own (Check u a) own is =
-      let z = and_parts (is_drawn x.phase) ((read_set x.reads).read a && not (holds_at nodes t a)) is in
-      let w = and_parts ((read_set x.reads).read a) (not (holds_at nodes t a)) z.1 in
-      subst (λ (v : TxnId). Meets s (Check v a)) (sym own) (is_drawn_to z.0, sym (ap (λ (m : Addr → Bool). m a) at.active.reads) ∙ w.0, free_to a w.1)
-  meets_own (Put u a) own is =
-      let z = and_parts (is_drawn x.phase || is_installing x.phase) (all_checked x.reads && holds_at nodes t a) is in
-      let w = and_parts (all_checked x.reads) (holds_at nodes t a) z.1 in
-      subst (λ (v : TxnId). Meets s (Put v a)) (sym own) (going_to z.0, holds_to a w.1, same_to w.0)
-  meets_own (Unlock u a) own is =
-      let z = and_parts (not (is_installing x.phase)) (holds_at nodes t a) is in
-      subst (λ (v : TxnId). Meets s (Unlock v a)) (sym own) (stage_to z.0, holds_to a z.1)
-  meets_own (Shut u) own is = absurd own
-  meets_own (Collect n) own is = absurd own
+  checked_iff : IsTrue (all_checked x.reads) ↔ AllSame y
+  checked_iff = (
+    λ is a. (unchecked_iff (y.has_read a) (y.had_locked a) (y.is_same a)).0 (sym (ap (λ (m : Addr → Bool). m a) at.active.unchecked) ∙ none_left x.reads.unchecked is a),
+    λ same. left_none x.reads.unchecked (λ a. ap (λ (m : Addr → Bool). m a) at.active.unchecked ∙ (unchecked_iff (y.has_read a) (y.had_locked a) (y.is_same a)).1 (same a)),
+  )
 
-  own_meets : (e : Event) → IsOf t e → Meets s e → meets_in x nodes t e ≡ true
-  own_meets (Load a bytes) own meets = absurd own
-  own_meets (Begin u) own meets = absurd own
-  own_meets (Read u a) own meets =
-      let z : Meets s (Read t a) = subst (λ (w : TxnId). Meets s (Read w a)) own meets in
-      and_from (is_reading x.phase) (not (holds_at nodes t a)) (is_reading_from z.0) (free_from a z.1)
-  own_meets (Alloc u n bytes) own meets = let z : Meets s (Alloc t n bytes) = subst (λ (w : TxnId). Meets s (Alloc w n bytes)) own meets in is_reading_from z
-  own_meets (Lock u a new) own meets =
-      let z : Meets s (Lock t a new) = subst (λ (w : TxnId). Meets s (Lock w a new)) own meets in
-      and_from (is_reading x.phase) (may_lock_at nodes t a x.read_stamp) (is_reading_from z.0)
-      ((λ i. may_lock t (at.active.read_stamp i) ((plain_is a i).cells a)) ∙ (may_iff (node_of s a) t a y.read_stamp).1 z.1)
-  own_meets (Draw u) own meets =
-      let z : Meets s (Draw t) = subst (λ (w : TxnId). Meets s (Draw w)) own meets in
-      and_from (is_reading x.phase) (not (is_none x.locked.items)) (is_reading_from z.0) (some_from z.1.0 x.locked.items (at.held z.1.0 z.1.1))
-  own_meets (Check u a) own meets =
-      let z : Meets s (Check t a) = subst (λ (w : TxnId). Meets s (Check w a)) own meets in
-      and_from (is_drawn x.phase) ((read_set x.reads).read a && not (holds_at nodes t a)) (is_drawn_from z.0)
-      (and_from ((read_set x.reads).read a) (not (holds_at nodes t a)) (ap (λ (m : Addr → Bool). m a) at.active.reads ∙ z.1) (free_from a z.2))
-  own_meets (Put u a) own meets =
-      let z : Meets s (Put t a) = subst (λ (w : TxnId). Meets s (Put w a)) own meets in
-      and_from (is_drawn x.phase || is_installing x.phase) (all_checked x.reads && holds_at nodes t a) (going_from z.0)
-      (and_from (all_checked x.reads) (holds_at nodes t a) (same_from z.2) (holds_from a z.1))
-  own_meets (Unlock u a) own meets =
-      let z : Meets s (Unlock t a) = subst (λ (w : TxnId). Meets s (Unlock w a)) own meets in
-      and_from (not (is_installing x.phase)) (holds_at nodes t a) (stage_from z.0) (holds_from a z.1)
-  own_meets (Shut u) own meets = absurd own
-  own_meets (Collect n) own meets = absurd own
+  may_lock_iff : (a : Addr) → IsTrue (may_lock_at nodes t a x.read_stamp) ↔ MayLock (node_of s a) t a y.read_stamp
+  may_lock_iff a = subst (λ (z : NodeState × ℕ). IsTrue (may_lock t z.1 (z.0.cells a)) ↔ MayLock (node_of s a) t a y.read_stamp)
+      (λ i. (sym (plain_is a) i, sym at.active.read_stamp i)) (may_iff (node_of s a) t a y.read_stamp)
 
   pub meets_iff : (e : Event) → IsOf t e → IsTrue (meets_in x nodes t e) ↔ Meets s e
-  meets_iff e own = (meets_own e own, own_meets e own)
+  meets_iff (event.Read u a) own = subst (λ (w : TxnId). IsTrue (meets_in x nodes t (event.Read u a)) ↔ Meets s (event.Read w a)) (sym own)
+      (and_iff (is_reading x.phase) (not (holds_at nodes t a)) is_reading_iff (not_iff (holds_at nodes t a) (holding_iff a)))
+  meets_iff (event.Alloc u n bytes) own = subst (λ (w : TxnId). IsTrue (is_reading x.phase) ↔ Meets s (event.Alloc w n bytes)) (sym own) is_reading_iff
+  meets_iff (event.Lock u a new) own = subst (λ (w : TxnId). IsTrue (meets_in x nodes t (event.Lock u a new)) ↔ Meets s (event.Lock w a new)) (sym own)
+      (and_iff (is_reading x.phase) (may_lock_at nodes t a x.read_stamp) is_reading_iff (may_lock_iff a))
+  meets_iff (event.Draw u) own = subst (λ (w : TxnId). IsTrue (meets_in x nodes t (event.Draw u)) ↔ Meets s (event.Draw w)) (sym own) (
+    λ is. let z = and_parts (is_reading x.phase) _ is in let going = is_reading_iff.0 z.0 in (going, some_to going x.locked.items at.active.locked z.1),
+    λ m. and_from (is_reading x.phase) _ (is_reading_iff.1 m.0) (some_from m.1.0 x.locked.items (at.held m.1.0 m.1.1)),
+  )
+  meets_iff (event.Check u a) own =
+      let rest = and_iff ((read_set x.reads).read a) (not (holds_at nodes t a)) (read_iff a) (not_iff (holds_at nodes t a) (holding_iff a)) in
+      let all = and_iff (is_drawn x.phase) ((read_set x.reads).read a && not (holds_at nodes t a)) is_drawn_iff rest in
+      subst (λ (w : TxnId). IsTrue (meets_in x nodes t (event.Check u a)) ↔ Meets s (event.Check w a)) (sym own)
+      (λ is. let z = all.0 is in (z.0, z.1.0, z.1.1), λ m. all.1 (m.0, (m.1, m.2)))
+  meets_iff (event.Put u a) own =
+      let rest = and_iff (all_checked x.reads) (holds_at nodes t a) checked_iff (holding_iff a) in
+      let all = and_iff (is_drawn x.phase || is_installing x.phase) (all_checked x.reads && holds_at nodes t a) going_iff rest in
+      subst (λ (w : TxnId). IsTrue (meets_in x nodes t (event.Put u a)) ↔ Meets s (event.Put w a)) (sym own)
+      (λ is. let z = all.0 is in (z.0, z.1.1, z.1.0), λ m. all.1 (m.0, (m.2, m.1)))
+  meets_iff (event.Unlock u a) own = subst (λ (w : TxnId). IsTrue (meets_in x nodes t (event.Unlock u a)) ↔ Meets s (event.Unlock w a)) (sym own)
+      (and_iff (not (is_installing x.phase)) (holds_at nodes t a) left_iff (holding_iff a))
+  meets_iff e own = absurd own

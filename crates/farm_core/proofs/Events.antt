@@ -1,33 +1,21 @@
 -- Each event keeps a state good.
-use Rattle.std.proofs.Common.{◌≡◌, ◌≢◌, ◌⊎◌, ℕ, ◌+◌, ◌^◌, ◌-◌, ◌*◌, ◌%◌, ◌<◌, ◌≤◌, max, cond, Bool, true, false, ◌||◌, List, [], ◌∷◌, ◌++◌, Option, Some, Result, Ok, Err, sym, refl, ap, ◌∙◌, subst, inl, inr, ⊎_elim, arith}
-use Rattle.std.proofs.lemmas.Bool.{eq-eqb, lt-ltb}
+use Rattle.std.proofs.Common.{◌≡◌, ◌⊎◌, ℕ, ◌+◌, ◌*◌, ◌%◌, ◌<◌, ◌≤◌, max, cond, Bool, true, List, [], ◌∷◌, ◌++◌, Option, Some, Result, Ok, Err, sym, refl, ap, ◌∙◌, subst, inl, inr, ⊎_elim, arith}
+use Rattle.std.proofs.lemmas.Bool.{or_cases, eq-eqb, lt-ltb}
 use Rattle.std.proofs.lemmas.Nat.{mod-mul-add}
-use Rattle.a1_base.specs.declared.limits.TheConstants.{COLLECTOR_ACTOR, LAST_STAMP}
-use Rattle.a1_base.specs.declared.place.Addr.{Addr}
-use Rattle.a1_base.specs.declared.place.TxnId.{TxnId}
-use Rattle.object_region.specs.Occupancy.{same_addr, LeastFree}
-use Rattle.farm_node.specs.declared.hold.Hold.{Hold}
-use Rattle.farm_node.specs.declared.entry.Found.{Found}
-use Rattle.farm_node.specs.declared.entry.Locked.{Locked}
-use Rattle.farm_node.specs.declared.entry.CheckFault.{CheckFault}
-use Rattle.farm_node.specs.declared.entry.Entry.{Entry}
-use Rattle.farm_node.specs.declared.entry.Entry.TheVariants.{Read, Alloc, Lock, Check, Put, Unlock, Collect}
-use Rattle.farm_node.specs.Cell.{Bytes, Cell, read_answer, made_by, locked_by, lock_answer, check_answer}
-use Rattle.farm_node.specs.NodeState.{NodeState, occupancy, PinnedBy, MayLock, FitsLock, FitsCheck, after, replay, collect_answer}
-use Rattle.a1_base.specs.Stamps.{IsStamp}
-use Rattle.farm_node.specs.Story.{story}
+use Rattle.farm_core.proofs.Words.{MayPut, COLLECTOR_ACTOR, LAST_STAMP, Addr, TxnId, same_addr, LeastFree, Hold, Found, Locked, CheckFault, Entry, Bytes, Cell}
+use Rattle.farm_core.proofs.Words.{read_answer, made_by, locked_by, lock_answer, check_answer, NodeState, occupancy, PinnedBy, MayLock, FitsLock}
+use Rattle.farm_core.proofs.Words.{after, replay, collect_answer, IsStamp, story, Reading, Drawn, Installing, Refused, with_addr, with_locked, in_stage, State}
+use Rattle.farm_core.proofs.Words.{home, node_at, node_of, set_log, adding, adding_to_all, set_transaction, moving, loading_over, IsAt, HoldsLockAt, AllSame}
+use Rattle.farm_core.proofs.Words.{Reads, Allocates, Locks, Draws, Checks, Collects}
+use Rattle.farm_node.specs.declared.entry.Entry.TheVariants as entry
 use Rattle.farm_node.proofs.Addresses.{addr_eq}
 use Rattle.farm_node.proofs.Sound.{txn_self}
 use Rattle.farm_node.proofs.Steps.{Askable, askable}
 use Rattle.farm_node.proofs.ReadsStay.{set_self}
-use Rattle.farm_core.specs.Machine.{Reading, Drawn, Installing, Refused, with_addr, with_locked, in_stage, State, home, node_at, node_of, set_log, adding, adding_to_all, set_transaction, moving, loading_over, IsAt, HoldsLockAt, AllSame, Reads, Allocates, Locks, Draws, Checks, Collects}
 use Rattle.farm_core.proofs.Lists.{replay_more}
-use Rattle.farm_core.proofs.Held.{HasLock, Holds, HoldingCell}
+use Rattle.farm_core.proofs.Held.{HasLock, Holds, HoldingCell, holds_held}
 use Rattle.farm_core.proofs.Good.{Listed, SameIn, Good, home_low, base_loading_over, good_adding}
-use Rattle.farm_core.proofs.Phases.{sane_reading, sane_checking, sane_installing, started, open_stage, good_staged, good_refused, good_locked, good_drawn}
-
-stamp_below : (m n top : ℕ) → m ≤ n → n < top → m < top
-stamp_below m n top le low = omega arith
+use Rattle.farm_core.proofs.Phases.{sane_next, sane_reading, started, open_stage, good_staged, good_refused, good_locked, good_drawn}
 
 pub now_at : (n : ℕ) (log : List Entry) (logs : ℕ → List Entry) → set_log n log logs n ≡ log
 now_at n log logs = ap (λ (g : Bool). cond g log (logs n)) (eq-eqb n n refl)
@@ -36,14 +24,36 @@ module _ (s : State) (g : Good s) where
   pub less_home : (a : Addr) → home s a < s.nodes
   less_home a = home_low s a g.base.count.0
 
-  read_stamp : (t : TxnId) → IsStamp (s.transactions t).read_stamp
-  read_stamp t = stamp_below (s.transactions t).read_stamp s.clock _ (g.base.sane t).read g.base.clock.1
+  pub read_stamp : (t : TxnId) → IsStamp (s.transactions t).read_stamp
+  read_stamp t = let low : (s.transactions t).read_stamp ≤ s.clock = (g.base.sane t).read in let top : IsStamp s.clock = g.base.clock.1 in omega arith
 
-  write_stamp : (t : TxnId) → IsStamp (s.transactions t).write_stamp
-  write_stamp t = stamp_below (s.transactions t).write_stamp s.clock _ (g.base.sane t).write g.base.clock.1
+  pub write_stamp : (t : TxnId) → IsStamp (s.transactions t).write_stamp
+  write_stamp t = let low : (s.transactions t).write_stamp ≤ s.clock = (g.base.sane t).write in let top : IsStamp s.clock = g.base.clock.1 in omega arith
 
-  is_pinned : (t : TxnId) (n : ℕ) → n < s.nodes → (s.transactions t).is_open ≡ true → PinnedBy (node_at s n) t.actor (s.transactions t).read_stamp
+  pub is_pinned : (t : TxnId) (n : ℕ) → n < s.nodes → (s.transactions t).is_open ≡ true → PinnedBy (node_at s n) t.actor (s.transactions t).read_stamp
   is_pinned t n less is_open = ((s.transactions t).read_stamp, g.pins.open_at t n less is_open, omega arith)
+
+  -- what a reading transaction had locked it holds
+  pub locked_held : (t : TxnId) (a : Addr) → IsAt Reading s t → (s.transactions t).had_locked a ≡ true → HoldsLockAt s t a
+  locked_held t a going locked =
+      let h = g.base.held t ((g.base.sane t).begun (open_stage s g t going.0)).0 a in
+      let undrawn : (s.transactions t).write_stamp ≡ 0 = ((g.base.sane t).undrawn going.1).0 in
+      ⊎_elim
+      (λ holds. holds_held (node_of s a) t a holds)
+      (λ put. let drawn : 0 < (s.transactions t).write_stamp = (h.puts put.0 put.1 put.2).drawn in absurd (omega arith))
+      (h.locked locked (λ refused. let at_reading : (s.transactions t).stage ≡ Reading = going.1 in cc))
+
+  -- what it holds when it has drawn it may put
+  has_drawn : (t : TxnId) → (IsAt Drawn s t ⊎ IsAt Installing s t) → (s.transactions t).read_stamp < (s.transactions t).write_stamp
+  has_drawn t at = (g.base.sane t).drawn (⊎_elim (λ x. inl x.1) (λ x. inr x.1) at)
+
+  pub may_put : (t : TxnId) (a : Addr) → (IsAt Drawn s t ⊎ IsAt Installing s t) → HoldsLockAt s t a → MayPut (node_of s a) t a (s.transactions t).write_stamp
+  may_put t a at has =
+      let later : (s.transactions t).read_stamp < (s.transactions t).write_stamp = has_drawn t at in
+      let actor : 0 < t.actor = ((g.base.sane t).begun (open_stage s g t (⊎_elim (λ x. x.0) (λ x. x.0) at))).0 in
+      let holding : HoldingCell t (s.transactions t) (Some has.0) (story a (s.logs (home s a))) =
+      subst (λ (c : Option Cell). HoldingCell t (s.transactions t) c (story a (s.logs (home s a)))) has.2 (g.base.held t actor a).holding in
+      (has.0, has.1, has.2, has.3, has.4, (holding (subst (λ (l : Option Hold). HasLock t l) (sym has.3) has.4)).low (omega arith))
 
   -- a node after one entry more
   grown_node : (n : ℕ) (e : Entry) → n < s.nodes → node_at (adding n e s) n ≡ after (node_at s n) e
@@ -55,19 +65,19 @@ module _ (s : State) (g : Good s) where
   -- read
 
   read_more : (t : TxnId) (a : Addr) (y : Result Found TxnId) → IsAt Reading s t → y ≡ read_answer (s.transactions t).read_stamp ((node_of s a).cells a)
-      → Good (adding (home s a) (Read t.actor a (s.transactions t).read_stamp y) s)
-  read_more t a y at due = good_adding s (home s a) (Read t.actor a (s.transactions t).read_stamp y) g (started s g t at.0) (less_home a) tt
+      → Good (adding (home s a) (entry.Read t.actor a (s.transactions t).read_stamp y) s)
+  read_more t a y at due = good_adding s (home s a) (entry.Read t.actor a (s.transactions t).read_stamp y) g (started s g t at.0) (less_home a) tt
       (is_pinned t (home s a) (less_home a) at.0, read_stamp t, due) (g.base.sane t).read (λ u. tt)
 
-  pub good_read : (t : TxnId) (a : Addr) (y : Result Found TxnId) (answer : _) (next : State) → IsAt Reading s t → y ≡ read_answer (s.transactions t).read_stamp ((node_of s a).cells a)
-      → Reads s t a (s.transactions t).read_stamp y answer next → Good next
-  good_read t a (Ok found) answer next at due acts =
-      let more : Good (adding (home s a) (Read t.actor a (s.transactions t).read_stamp (Ok found)) s) = read_more t a (Ok found) at due in
-      subst Good (sym acts.1) (good_staged (adding (home s a) (Read t.actor a (s.transactions t).read_stamp (Ok found)) s) more t (s.transactions t).stage (with_addr a (s.transactions t).has_read) (s.transactions t).is_same (started s g t at.0)
+  pub good_read : (t : TxnId) (a : Addr) (y : Result Found TxnId) (told : _) (next : State) → IsAt Reading s t → y ≡ read_answer (s.transactions t).read_stamp ((node_of s a).cells a)
+      → Reads s t a (s.transactions t).read_stamp y told next → Good next
+  good_read t a (Ok found) told next at due acts =
+      let more : Good (adding (home s a) (entry.Read t.actor a (s.transactions t).read_stamp (Ok found)) s) = read_more t a (Ok found) at due in
+      subst Good (sym acts.1) (good_staged (adding (home s a) (entry.Read t.actor a (s.transactions t).read_stamp (Ok found)) s) more t (s.transactions t).stage (with_addr a (s.transactions t).has_read) (s.transactions t).is_same (started s g t at.0)
       (sane_reading s.clock s.begins t (s.transactions t) (g.base.sane t) (with_addr a (s.transactions t).has_read) (s.transactions t).had_locked at.1)
       (λ going. going)
       (more.base.same t))
-  good_read t a (Err by) answer next at due acts = subst Good (sym acts.1) (read_more t a (Err by) at due)
+  good_read t a (Err by) told next at due acts = subst Good (sym acts.1) (read_more t a (Err by) at due)
 
   -- alloc
 
@@ -84,16 +94,16 @@ module _ (s : State) (g : Good s) where
       let is : a.region ≡ place.0 * s.nodes + n = place.2 ∙ ((λ i. l.number i + place.0 * l.count i) ∙ omega arith) in
       sym (ap (λ (z : ℕ). z % s.nodes) is ∙ mod-mul-add place.0 s.nodes n less)
 
-  pub good_alloc : (t : TxnId) (n : ℕ) (bytes : Bytes) (answer : _) (next : State) → IsAt Reading s t → n < s.nodes
-      → Allocates s t n (s.transactions t).read_stamp bytes answer next → Good next
-  good_alloc t n bytes answer next at less acts = ⊎_elim
+  pub good_alloc : (t : TxnId) (n : ℕ) (bytes : Bytes) (told : _) (next : State) → IsAt Reading s t → n < s.nodes
+      → Allocates s t n (s.transactions t).read_stamp bytes told next → Good next
+  good_alloc t n bytes told next at less acts = ⊎_elim
       (λ x. subst Good (sym x.2.1) (placed x.0 x.1))
       (λ x. subst Good (sym x.1.1) (good_refused s g t at.0))
       acts where
         placed : (a : Addr) → LeastFree (occupancy (node_at s n)) a
-            → Good (moving t (with_locked a) (adding n (Alloc t (s.transactions t).read_stamp bytes (record { at = a; bound = max (node_at s n).past (s.transactions t).read_stamp })) s))
+            → Good (moving t (with_locked a) (adding n (entry.Alloc t (s.transactions t).read_stamp bytes (record { at = a; bound = max (node_at s n).past (s.transactions t).read_stamp })) s))
         placed a free =
-            let e : Entry = Alloc t (s.transactions t).read_stamp bytes (record { at = a; bound = max (node_at s n).past (s.transactions t).read_stamp }) in
+            let e : Entry = entry.Alloc t (s.transactions t).read_stamp bytes (record { at = a; bound = max (node_at s n).past (s.transactions t).read_stamp }) in
             let more : Good (adding n e s) = good_adding s n e g (started s g t at.0) less tt
             (is_pinned t n less at.0, read_stamp t, free, refl) (g.base.sane t).read (λ u mine. reading_allows t u at mine) in
             let there : (node_at (adding n e s) n).cells a ≡ Some (made_by t bytes (max (node_at s n).past (s.transactions t).read_stamp)) =
@@ -103,106 +113,88 @@ module _ (s : State) (g : Good s) where
 
   -- lock
 
-  pub good_lock : (t : TxnId) (a : Addr) (new : Option Bytes) (y : Result Locked CheckFault) (answer : _) (next : State) → IsAt Reading s t
+  pub good_lock : (t : TxnId) (a : Addr) (new : Option Bytes) (y : Result Locked CheckFault) (told : _) (next : State) → IsAt Reading s t
       → MayLock (node_of s a) t a (s.transactions t).read_stamp → y ≡ lock_answer t (s.transactions t).read_stamp ((node_of s a).cells a)
-      → Locks s t a (s.transactions t).read_stamp new y answer next → Good next
-  good_lock t a new (Ok given) answer next at may due acts =
-      let e : Entry = Lock t a (s.transactions t).read_stamp new (Ok given) in
+      → Locks s t a (s.transactions t).read_stamp new y told next → Good next
+  good_lock t a new (Ok given) told next at may due acts =
+      let e : Entry = entry.Lock t a (s.transactions t).read_stamp new (Ok given) in
       let fits : FitsLock (node_of s a) t a (s.transactions t).read_stamp (Ok given) = record { pinned = is_pinned t (home s a) (less_home a) at.0; stamp = read_stamp t; may = may; due = due } in
       let more : Good (adding (home s a) e s) = good_adding s (home s a) e g (started s g t at.0) (less_home a) tt fits tt (λ u mine. reading_allows t u at mine) in
       let ask : Askable t ((node_of s a).cells a) = askable (node_of s a) t a (s.transactions t).read_stamp (Ok given) fits in
       let there : (node_at (adding (home s a) e s) (home s a)).cells a ≡ locked_by t new (Some ask.cell) =
       ap (λ (p : NodeState). p.cells a) (grown_node (home s a) e (less_home a)) ∙ (set_self a _ (node_of s a).cells ∙ ap (locked_by t new) ask.is) in
       subst Good (sym acts.1) (good_locked (adding (home s a) e s) more t a at.0 at.1 (subst (λ (c : Option Cell). Holds t c) (sym there) refl))
-  good_lock t a new (Err fault) answer next at may due acts =
-      let e : Entry = Lock t a (s.transactions t).read_stamp new (Err fault) in
+  good_lock t a new (Err fault) told next at may due acts =
+      let e : Entry = entry.Lock t a (s.transactions t).read_stamp new (Err fault) in
       let fits : FitsLock (node_of s a) t a (s.transactions t).read_stamp (Err fault) = record { pinned = is_pinned t (home s a) (less_home a) at.0; stamp = read_stamp t; may = may; due = due } in
       let more : Good (adding (home s a) e s) = good_adding s (home s a) e g (started s g t at.0) (less_home a) tt fits tt (λ u. tt) in
       subst Good (sym acts.1) (good_refused (adding (home s a) e s) more t at.0)
 
   -- draw
 
-  pub good_draw : (t : TxnId) (answer : _) (next : State) → IsAt Reading s t → Draws s t answer next → Good next
-  good_draw t answer next at acts = ⊎_elim
+  pub good_draw : (t : TxnId) (told : _) (next : State) → IsAt Reading s t → Draws s t told next → Good next
+  good_draw t told next at acts = ⊎_elim
       (λ x. let low : s.clock < LAST_STAMP = x.0 in subst Good (sym x.1.1) (good_drawn s g t at.0 at.1 (omega arith)))
       (λ x. subst Good (sym x.1.1) (good_refused s g t at.0))
       acts
 
   -- check
 
-  pub good_check : (t : TxnId) (a : Addr) (y : Result (Unit {0}) CheckFault) (answer : _) (next : State) → IsAt Drawn s t → (HoldsLockAt s t a → ⊥)
-      → y ≡ check_answer (s.transactions t).read_stamp ((node_of s a).cells a) → Checks s t a (s.transactions t).read_stamp (s.transactions t).write_stamp y answer next → Good next
-  good_check t a y answer next at free due acts = by y due acts where
-    fits : (y : Result (Unit {0}) CheckFault) → y ≡ check_answer (s.transactions t).read_stamp ((node_of s a).cells a)
-        → FitsCheck (node_of s a) t a (s.transactions t).read_stamp (s.transactions t).write_stamp y
-    fits y due = record { pinned = is_pinned t (home s a) (less_home a) at.0; stamps = (read_stamp t, write_stamp t); not_own = free; due = due }
-
+  pub good_check : (t : TxnId) (a : Addr) (y : Result (Unit {0}) CheckFault) (told : _) (next : State) → IsAt Drawn s t → (HoldsLockAt s t a → ⊥)
+      → y ≡ check_answer (s.transactions t).read_stamp ((node_of s a).cells a) → Checks s t a (s.transactions t).read_stamp (s.transactions t).write_stamp y told next → Good next
+  good_check t a y told next at free due acts = by y due acts where
     more : (y : Result (Unit {0}) CheckFault) → y ≡ check_answer (s.transactions t).read_stamp ((node_of s a).cells a)
-        → Good (adding (home s a) (Check t a (s.transactions t).read_stamp (s.transactions t).write_stamp y) s)
-    more y due = good_adding s (home s a) (Check t a (s.transactions t).read_stamp (s.transactions t).write_stamp y) g (started s g t at.0) (less_home a) tt (fits y due) (g.base.sane t).write (λ u. tt)
+        → Good (adding (home s a) (entry.Check t a (s.transactions t).read_stamp (s.transactions t).write_stamp y) s)
+    more y due = good_adding s (home s a) (entry.Check t a (s.transactions t).read_stamp (s.transactions t).write_stamp y) g (started s g t at.0) (less_home a) tt
+        (record { pinned = is_pinned t (home s a) (less_home a) at.0; stamps = (read_stamp t, write_stamp t); not_own = free; due = due }) (g.base.sane t).write (λ u. tt)
 
     by : (y : Result (Unit {0}) CheckFault) → y ≡ check_answer (s.transactions t).read_stamp ((node_of s a).cells a)
-        → Checks s t a (s.transactions t).read_stamp (s.transactions t).write_stamp y answer next → Good next
+        → Checks s t a (s.transactions t).read_stamp (s.transactions t).write_stamp y told next → Good next
     by (Ok same) due acts =
-        let e : Entry = Check t a (s.transactions t).read_stamp (s.transactions t).write_stamp (Ok tt) in
+        let e : Entry = entry.Check t a (s.transactions t).read_stamp (s.transactions t).write_stamp (Ok tt) in
         let after_it : Good (adding (home s a) e s) = more (Ok tt) due in
         let here : SameIn ((adding (home s a) e s).logs (home s a)) t a (s.transactions t).read_stamp (s.transactions t).write_stamp =
         record { before = s.logs (home s a); rest = []; is = now_at (home s a) (s.logs (home s a) ++ e ∷ []) s.logs } in
         subst Good (sym acts.1) (good_staged (adding (home s a) e s) after_it t (s.transactions t).stage (s.transactions t).has_read (with_addr a (s.transactions t).is_same) (started s g t at.0)
-        (sane_checking s.clock s.begins t (s.transactions t) (g.base.sane t) (with_addr a (s.transactions t).is_same) at.1)
+        (sane_next s.clock s.begins t (s.transactions t) _ _ _ _ _ (with_addr a (s.transactions t).is_same) (g.base.sane t) (λ none. cc) (λ none. cc) (λ o. o) (g.base.sane t).write
+        (λ reading. absurd (cc)) (g.base.sane t).drawn (λ installing. absurd (cc)))
         (λ going. going)
-        (λ b. marked b (adding (home s a) e s) here (after_it.base.same t b) (same_addr a b) refl)) where
-          marked : (b : Addr) (d : State) → SameIn (d.logs (home s a)) t a (s.transactions t).read_stamp (s.transactions t).write_stamp
-              → ((s.transactions t).is_same b ≡ true → SameIn (d.logs (home s b)) t b (s.transactions t).read_stamp (s.transactions t).write_stamp)
-              → (x : Bool) → same_addr a b ≡ x → (x || (s.transactions t).is_same b) ≡ true → SameIn (d.logs (home s b)) t b (s.transactions t).read_stamp (s.transactions t).write_stamp
-          marked b d here old true is same = subst (λ (z : Addr). SameIn (d.logs (home s z)) t z (s.transactions t).read_stamp (s.transactions t).write_stamp) (addr_eq a b is) here
-          marked b d here old false is same = old same
+        (λ b same. ⊎_elim
+        (λ is. subst (λ (z : Addr). SameIn ((adding (home s a) e s).logs (home s z)) t z (s.transactions t).read_stamp (s.transactions t).write_stamp) (addr_eq a b is) here)
+        (λ old. after_it.base.same t b old)
+        (or_cases (same_addr a b) ((s.transactions t).is_same b) same)))
     by (Err fault) due acts =
-        subst Good (sym acts.1) (good_refused (adding (home s a) (Check t a (s.transactions t).read_stamp (s.transactions t).write_stamp (Err fault)) s) (more (Err fault) due) t at.0)
+        subst Good (sym acts.1) (good_refused (adding (home s a) (entry.Check t a (s.transactions t).read_stamp (s.transactions t).write_stamp (Err fault)) s) (more (Err fault) due) t at.0)
 
   -- put
 
-  pub good_put : (t : TxnId) (a : Addr) (next : State) → 0 < t.actor → (IsAt Drawn s t ⊎ IsAt Installing s t) → HoldsLockAt s t a → AllSame (s.transactions t)
-      → next ≡ moving t (in_stage Installing) (adding (home s a) (Put t a (s.transactions t).write_stamp) s) → Good next
-  good_put t a next actor at has same is =
-      let more : Good (adding (home s a) (Put t a (s.transactions t).write_stamp) s) = good_adding s (home s a) (Put t a (s.transactions t).write_stamp) g (started s g t is_open) (less_home a) tt
-      ((has.0, has.1, has.2, has.3, has.4, bound drawn), write_stamp t) (g.base.sane t).write
-      (λ u mine. subst (λ (z : TxnId). ((s.transactions t).write_stamp ≡ (s.transactions z).write_stamp) × (0 < (s.transactions z).write_stamp)) mine (refl, drawn)) in
-      subst Good (sym is) (good_staged (adding (home s a) (Put t a (s.transactions t).write_stamp) s) more t Installing (s.transactions t).has_read (s.transactions t).is_same (started s g t is_open)
-      (sane_installing s.clock s.begins t (s.transactions t) (g.base.sane t) (open_stage s g t is_open) stage same)
-      (λ going. not_refused)
-      (more.base.same t)) where
-        is_open : (s.transactions t).is_open ≡ true
-        is_open = ⊎_elim (λ x. x.0) (λ x. x.0) at
-
-        stage : ((s.transactions t).stage ≡ Drawn) ⊎ ((s.transactions t).stage ≡ Installing)
-        stage = ⊎_elim (λ x. inl x.1) (λ x. inr x.1) at
-
-        not_refused : (s.transactions t).stage ≢ Refused
-        not_refused refused = ⊎_elim (λ (x : (s.transactions t).stage ≡ Drawn). cc) (λ (x : (s.transactions t).stage ≡ Installing). cc) stage
-
-        drawn : 0 < (s.transactions t).write_stamp
-        drawn = let later : (s.transactions t).read_stamp < (s.transactions t).write_stamp = (g.base.sane t).drawn stage in omega arith
-
-        bound : 0 < (s.transactions t).write_stamp → has.0.bound < (s.transactions t).write_stamp
-        bound above =
-            let holding : HoldingCell t (s.transactions t) (Some has.0) (story a (s.logs (home s a))) =
-            subst (λ (c : Option Cell). HoldingCell t (s.transactions t) c (story a (s.logs (home s a)))) has.2 (g.base.held t actor a).holding in
-            (holding (subst (λ (l : Option Hold). HasLock t l) (sym has.3) has.4)).low above
+  pub good_put : (t : TxnId) (a : Addr) (next : State) → (IsAt Drawn s t ⊎ IsAt Installing s t) → HoldsLockAt s t a → AllSame (s.transactions t)
+      → next ≡ moving t (in_stage Installing) (adding (home s a) (entry.Put t a (s.transactions t).write_stamp) s) → Good next
+  good_put t a next at has same is =
+      let is_open : (s.transactions t).is_open ≡ true = ⊎_elim (λ x. x.0) (λ x. x.0) at in
+      let later : (s.transactions t).read_stamp < (s.transactions t).write_stamp = has_drawn t at in
+      let more : Good (adding (home s a) (entry.Put t a (s.transactions t).write_stamp) s) = good_adding s (home s a) (entry.Put t a (s.transactions t).write_stamp) g (started s g t is_open) (less_home a) tt
+      (may_put t a at has, write_stamp t) (g.base.sane t).write
+      (λ u mine. subst (λ (z : TxnId). ((s.transactions t).write_stamp ≡ (s.transactions z).write_stamp) × (0 < (s.transactions z).write_stamp)) mine (refl, omega arith)) in
+      subst Good (sym is) (good_staged (adding (home s a) (entry.Put t a (s.transactions t).write_stamp) s) more t Installing (s.transactions t).has_read (s.transactions t).is_same (started s g t is_open)
+      (sane_next s.clock s.begins t (s.transactions t) Installing _ _ _ _ _ (g.base.sane t) (open_stage s g t is_open) (λ none. cc) (λ o. o) (g.base.sane t).write (λ reading. absurd (cc))
+      (λ drawn. later) (λ installing. same))
+      (λ going refused. ⊎_elim (λ (x : IsAt Drawn s t). let stage : (s.transactions t).stage ≡ Drawn = x.1 in cc) (λ (x : IsAt Installing s t). let stage : (s.transactions t).stage ≡ Installing = x.1 in cc) at)
+      (more.base.same t))
 
   -- unlock
 
   pub good_unlock : (t : TxnId) (a : Addr) (next : State) → (s.transactions t).is_open ≡ true → HoldsLockAt s t a
-      → next ≡ moving t (in_stage Refused) (adding (home s a) (Unlock t a) s) → Good next
+      → next ≡ moving t (in_stage Refused) (adding (home s a) (entry.Unlock t a) s) → Good next
   good_unlock t a next is_open has is =
-      subst Good (sym is) (good_adding (moving t (in_stage Refused) s) (home s a) (Unlock t a) (good_refused s g t is_open) (started s g t is_open) (less_home a) tt has tt
+      subst Good (sym is) (good_adding (moving t (in_stage Refused) s) (home s a) (entry.Unlock t a) (good_refused s g t is_open) (started s g t is_open) (less_home a) tt has tt
       (λ u mine. subst (λ (z : TxnId). (set_transaction t (in_stage Refused (s.transactions t)) s.transactions z).stage ≡ Refused) mine
       (ap (λ (b : Bool). (cond b (in_stage Refused (s.transactions t)) (s.transactions t)).stage) (txn_self t))))
 
   -- collect
 
-  pub good_collect : (n : ℕ) (answer : _) (next : State) → n < s.nodes → Collects s n (collect_answer (node_at s n) s.clock) answer next → Good next
-  good_collect n answer next less acts =
-      subst Good (sym acts.1) (good_adding (loading_over s) n (Collect COLLECTOR_ACTOR s.clock (collect_answer (node_at s n) s.clock))
+  pub good_collect : (n : ℕ) (told : _) (next : State) → n < s.nodes → Collects s n (collect_answer (node_at s n) s.clock) told next → Good next
+  good_collect n told next less acts =
+      subst Good (sym acts.1) (good_adding (loading_over s) n (entry.Collect COLLECTOR_ACTOR s.clock (collect_answer (node_at s n) s.clock))
       record { base = base_loading_over s g.base; pins = record { open_at = g.pins.open_at; none_at = g.pins.none_at } }
       refl less tt (omega arith, g.base.clock.1, refl) (omega arith) (λ u. tt))

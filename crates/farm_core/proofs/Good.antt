@@ -1,19 +1,12 @@
 -- What every state of a run keeps, and the changes that keep it.
-use Rattle.std.proofs.Common.{◌≡◌, ◌≢◌, ◌⊎◌, ℕ, ◌+◌, ◌<◌, ◌≤◌, nat_lt, eqb, cond, Bool, true, false, List, [], ◌∷◌, ◌++◌, Option, Some, None, Ok, Err, sym, refl, ap, ◌∙◌, subst, arith, append_assoc}
-use Rattle.std.proofs.lemmas.Bool.{eqb-true}
-use Rattle.a1_base.specs.declared.limits.TheConstants.{ACTOR_LIMIT, NODE_LIMIT}
-use Rattle.a1_base.specs.declared.place.Addr.{Addr}
-use Rattle.a1_base.specs.declared.place.TxnId.{TxnId}
-use Rattle.farm_node.specs.declared.entry.Start.{Start}
-use Rattle.farm_node.specs.declared.entry.Entry.{Entry}
-use Rattle.farm_node.specs.declared.entry.Entry.TheVariants.{Made, Open, Shut, Read, Alloc, Lock, Check, Put, Unlock, Collect}
-use Rattle.farm_node.specs.Cell.{same_txn}
-use Rattle.farm_node.specs.NodeState.{NodeState, Fits, after, Lawful, replay}
-use Rattle.a1_base.specs.Stamps.{IsStamp}
-use Rattle.farm_node.specs.Story.{Story, story}
-use Rattle.farm_node.proofs.Sound.{txn_eq, sound_end}
+use Rattle.std.proofs.Common.{◌≡◌, ◌≢◌, ◌⊎◌, ℕ, ◌<◌, ◌≤◌, nat_lt, eqb, true, false, List, [], ◌∷◌, ◌++◌, Option, Some, None, Ok, sym, refl, ap, ◌∙◌, subst, inl, inr, ⊎_elim, arith, append_assoc}
+use Rattle.std.proofs.lemmas.Bool.{both_ways, cond-true, cond-false, cond_both, eqb-true, false_from_ne_true}
+use Rattle.farm_core.proofs.Words.{ACTOR_LIMIT, NODE_LIMIT, Addr, TxnId, Start, Entry, same_txn, NodeState, Fits, after, Lawful, replay, IsStamp, Story, story}
+use Rattle.farm_core.proofs.Words.{Unbegun, Reading, Drawn, Installing, Transaction, unbegun, State, home, node_at, set_log, adding, adding_to_all}
+use Rattle.farm_core.proofs.Words.{set_transaction, moving, counting_begin, loading_over, AllSame}
+use Rattle.farm_node.specs.declared.entry.Entry.TheVariants as entry
+use Rattle.farm_node.proofs.Sound.{txn_eq, txn_self, sound_end}
 use Rattle.farm_node.proofs.Steps.{keeps}
-use Rattle.farm_core.specs.Machine.{Unbegun, Reading, Drawn, Installing, Transaction, unbegun, State, home, node_at, set_log, adding, adding_to_all, set_transaction, moving, counting_begin, loading_over, AllSame}
 use Rattle.farm_core.proofs.Lists.{lawful_more, replay_more, story_more}
 use Rattle.farm_core.proofs.Low.{Low, LowEntry, low_after, low_more}
 use Rattle.farm_core.proofs.Held.{Held, Allows, held}
@@ -41,7 +34,7 @@ pub record Sane (clock : ℕ) (begins : ℕ → ℕ) (t : TxnId) (x : Transactio
 pub record SameIn (log : List Entry) (t : TxnId) (a : Addr) (r w : ℕ) : Type 0 where
   pub before : List Entry
   pub rest : List Entry
-  pub is : log ≡ before ++ Check t a r w (Ok tt) ∷ rest
+  pub is : log ≡ before ++ entry.Check t a r w (Ok tt) ∷ rest
 
 abbrev pub HeldAt : TxnId → Transaction → Addr → List Entry → Type 0
 HeldAt t x a log = Held t x a ((replay log).cells a) (replay log).past (replay log).floor (story a log)
@@ -50,7 +43,7 @@ abbrev pub SameAt : TxnId → Transaction → Addr → List Entry → Type 0
 SameAt t x a log = x.is_same a ≡ true → SameIn log t a x.read_stamp x.write_stamp
 
 abbrev pub IsFirst : List Entry → Type 0
-IsFirst log = (m : Start) × (log ≡ Made m ∷ [])
+IsFirst log = (m : Start) × (log ≡ entry.Made m ∷ [])
 
 -- all but the pins
 pub record Base (s : State) : Type 0 where
@@ -77,25 +70,24 @@ pub record Good (s : State) : Type 0 where
 
 -- one entry more
 
-kept_after : (p : NodeState) (e : Entry) → ((after p e).node ≡ p.node) × ((after p e).nodes ≡ p.nodes) × ((after p e).actors ≡ p.actors)
-kept_after p (Made m) = (refl, refl, refl)
-kept_after p (Open k c x) = (refl, refl, refl)
-kept_after p (Shut k) = (refl, refl, refl)
-kept_after p (Read k b s (Ok found)) = (refl, refl, refl)
-kept_after p (Read k b s (Err by)) = (refl, refl, refl)
-kept_after p (Alloc u r v placed) = (refl, refl, refl)
-kept_after p (Lock u b r value (Ok given)) = (refl, refl, refl)
-kept_after p (Lock u b r value (Err fault)) = (refl, refl, refl)
-kept_after p (Check u b r w (Ok same)) = (refl, refl, refl)
-kept_after p (Check u b r w (Err fault)) = (refl, refl, refl)
-kept_after p (Put u b w) = (refl, refl, refl)
-kept_after p (Unlock u b) = (refl, refl, refl)
-kept_after p (Collect k f removed) = (refl, refl, refl)
+abbrev pub NoPin : Entry → Type 0
+NoPin (entry.Open k c x) = ⊥
+NoPin (entry.Shut k) = ⊥
+NoPin e = Unit {0}
+
+after_keeps : (p : NodeState) (e : Entry)
+    → ((after p e).node ≡ p.node) × ((after p e).nodes ≡ p.nodes) × ((after p e).actors ≡ p.actors) × (NoPin e → (after p e).pins ≡ p.pins)
+after_keeps p (entry.Open k c x) = (refl, refl, refl, λ bare. absurd bare)
+after_keeps p (entry.Shut k) = (refl, refl, refl, λ bare. absurd bare)
+after_keeps p (entry.Read k b s (Ok found)) = (refl, refl, refl, λ bare. refl)
+after_keeps p (entry.Lock u b r value (Ok given)) = (refl, refl, refl, λ bare. refl)
+after_keeps p (entry.Check u b r w (Ok same)) = (refl, refl, refl, λ bare. refl)
+after_keeps p e = (refl, refl, refl, λ bare. refl)
 
 listed_more : (clock nodes n : ℕ) (log : List Entry) (e : Entry) → Listed clock nodes n log → Fits (replay log) e → LowEntry clock e → Listed clock nodes n (log ++ e ∷ [])
 listed_more clock nodes n log e l fits low =
     let is : replay (log ++ e ∷ []) ≡ after (replay log) e = replay_more log e l.lawful in
-    let kept = kept_after (replay log) e in
+    let kept = after_keeps (replay log) e in
     record {
       lawful = lawful_more log e l.lawful fits;
       number = ap (λ (p : NodeState). p.node) is ∙ (kept.0 ∙ l.number);
@@ -113,65 +105,68 @@ same_more : (t : TxnId) (a : Addr) (r w : ℕ) (log : List Entry) (e : Entry) �
 same_more t a r w log e s = record {
   before = s.before;
   rest = s.rest ++ e ∷ [];
-  is = ap (λ (es : List Entry). es ++ e ∷ []) s.is ∙ append_assoc s.before (Check t a r w (Ok tt) ∷ s.rest) (e ∷ []);
+  is = ap (λ (es : List Entry). es ++ e ∷ []) s.is ∙ append_assoc s.before (entry.Check t a r w (Ok tt) ∷ s.rest) (e ∷ []);
 }
 
 pub home_low : (s : State) (a : Addr) → 0 < s.nodes → home s a < s.nodes
 home_low s a low = omega arith
 
-pub grown : (P : List Entry → Type 0) (n m : ℕ) (log : List Entry) (logs : ℕ → List Entry) → (n ≡ m → P log) → P (logs m) → P (set_log n log logs m)
-grown P n m log logs here there = by (eqb n m) refl where
-  by : (g : Bool) → eqb n m ≡ g → P (cond g log (logs m))
-  by true is = here (eqb-true n m is)
-  by false is = there
+-- a list that is set, at its node and elsewhere
+pub set_at : (P : List Entry → Type 0) (n m : ℕ) (log : List Entry) (logs : ℕ → List Entry) → (n ≡ m → P log) → P (logs m) → P (set_log n log logs m)
+set_at P n m log logs here there = cond_both (eqb n m) log (logs m) P (λ is. here (eqb-true n m is)) (λ is. there)
 
-all_grown : (P : List Entry → Type 0) (m nodes : ℕ) (e : Entry) (logs : ℕ → List Entry) → P (logs m ++ e ∷ []) → P (logs m) → P (cond (nat_lt m nodes) (logs m ++ e ∷ []) (logs m))
-all_grown P m nodes e logs more there = elim (nat_lt m nodes) as (λ g. P (cond g (logs m ++ e ∷ []) (logs m))) [ true ↦ more | false ↦ there ]
+-- each list is as it was, or has the entry behind it, which is so on these nodes alone
+pub record Grown (On : ℕ → Type 0) (s : State) (e : Entry) (logs : ℕ → List Entry) : Type 0 where
+  pub each : (n : ℕ) → (logs n ≡ s.logs n) ⊎ (On n × (logs n ≡ s.logs n ++ e ∷ []))
 
-module _ (s : State) (e : Entry) (b : Base s) (started : s.loading ≡ false) (allows : (t : TxnId) → Allows t (s.transactions t) e) where
-  log_listed : (n : ℕ) → n < s.nodes → Fits (node_at s n) e → LowEntry s.clock e → Listed s.clock s.nodes n (s.logs n ++ e ∷ [])
-  log_listed n low fits lows = listed_more s.clock s.nodes n (s.logs n) e (b.lists n low) fits lows
+pub one_grown : (s : State) (n : ℕ) (e : Entry) → Grown (λ m. n ≡ m) s e (adding n e s).logs
+one_grown s n e = record {
+  each = λ m. set_at (λ log. (log ≡ s.logs m) ⊎ ((n ≡ m) × (log ≡ s.logs m ++ e ∷ []))) n m (s.logs n ++ e ∷ []) s.logs (λ is. inr (is, ap (λ (k : ℕ). s.logs k ++ e ∷ []) is)) (inl refl);
+}
 
-  log_held : (t : TxnId) (a : Addr) (n : ℕ) → n < s.nodes → Fits (node_at s n) e → 0 < t.actor → n ≡ home s a → HeldAt t (s.transactions t) a (s.logs n ++ e ∷ [])
-  log_held t a n low fits actor is = held_more t (s.transactions t) a (s.logs n) e (b.lists n low).lawful fits (allows t)
-      (subst (λ (m : ℕ). HeldAt t (s.transactions t) a (s.logs m)) (sym is) (b.held t actor a))
+pub all_grown : (s : State) (e : Entry) → Grown (λ n. Unit {0}) s e (adding_to_all e s).logs
+all_grown s e = record {
+  each = λ n. cond_both (nat_lt n s.nodes) (s.logs n ++ e ∷ []) (s.logs n) (λ log. (log ≡ s.logs n) ⊎ (Unit {0} × (log ≡ s.logs n ++ e ∷ []))) (λ is. inr (tt, refl)) (λ is. inl refl);
+}
 
-  log_same : (t : TxnId) (a : Addr) (n : ℕ) → n ≡ home s a → SameAt t (s.transactions t) a (s.logs n ++ e ∷ [])
-  log_same t a n is same = same_more t a (s.transactions t).read_stamp (s.transactions t).write_stamp (s.logs n) e
-      (subst (λ (m : ℕ). SameIn (s.logs m) t a (s.transactions t).read_stamp (s.transactions t).write_stamp) (sym is) (b.same t a same))
+module _ (On : ℕ → Type 0) (s : State) (e : Entry) (logs : ℕ → List Entry) (grown : Grown On s e logs) where
+  pub grown_at : (n : ℕ) (P : List Entry → Type 0) → (On n → P (s.logs n ++ e ∷ [])) → P (s.logs n) → P (logs n)
+  grown_at n P more same = ⊎_elim (λ is. subst P (sym is) same) (λ is. subst P (sym is.1) (more is.0)) (grown.each n)
 
-  base_adding : (n : ℕ) → n < s.nodes → Fits (node_at s n) e → LowEntry s.clock e → Base (adding n e s)
-  base_adding n low fits lows = record {
+  base_grown : Base s → s.loading ≡ false → ((t : TxnId) → Allows t (s.transactions t) e) → ((n : ℕ) → n < s.nodes → On n → Fits (node_at s n) e) → LowEntry s.clock e
+      → Base (record s { logs = logs })
+  base_grown b started allows fits low = record {
     count = b.count;
     clock = b.clock;
-    lists = λ m less. grown (Listed s.clock s.nodes m) n m (s.logs n ++ e ∷ []) s.logs (λ is. subst (λ (z : ℕ). Listed s.clock s.nodes z (s.logs n ++ e ∷ [])) is (log_listed n low fits lows)) (b.lists m less);
-    sane = b.sane;
-    held = λ t actor a. grown (HeldAt t (s.transactions t) a) n (home s a) (s.logs n ++ e ∷ []) s.logs (log_held t a n low fits actor) (b.held t actor a);
-    same = λ t a. grown (SameAt t (s.transactions t) a) n (home s a) (s.logs n ++ e ∷ []) s.logs (log_same t a n) (b.same t a);
-    apart = b.apart;
-    first = λ loading. absurd (cc);
-  }
-
-  pub base_adding_to_all : ((n : ℕ) → n < s.nodes → Fits (node_at s n) e) → LowEntry s.clock e → Base (adding_to_all e s)
-  base_adding_to_all fits lows = record {
-    count = b.count;
-    clock = b.clock;
-    lists = λ m less. all_grown (Listed s.clock s.nodes m) m s.nodes e s.logs (log_listed m less (fits m less) lows) (b.lists m less);
+    lists = λ n less. grown_at n (Listed s.clock s.nodes n) (λ on. listed_more s.clock s.nodes n (s.logs n) e (b.lists n less) (fits n less on) low) (b.lists n less);
     sane = b.sane;
     held = λ t actor a. let less : home s a < s.nodes = home_low s a b.count.0 in
-        all_grown (HeldAt t (s.transactions t) a) (home s a) s.nodes e s.logs (log_held t a (home s a) less (fits (home s a) less) actor refl) (b.held t actor a);
-    same = λ t a. all_grown (SameAt t (s.transactions t) a) (home s a) s.nodes e s.logs (log_same t a (home s a) refl) (b.same t a);
+        grown_at (home s a) (HeldAt t (s.transactions t) a)
+        (λ on. held_more t (s.transactions t) a (s.logs (home s a)) e (b.lists (home s a) less).lawful (fits (home s a) less on) (allows t) (b.held t actor a))
+        (b.held t actor a);
+    same = λ t a. grown_at (home s a) (SameAt t (s.transactions t) a) (λ on same. same_more t a _ _ (s.logs (home s a)) e (b.same t a same)) (b.same t a);
     apart = b.apart;
     first = λ loading. absurd (cc);
   }
 
--- a change of one transaction
+pub base_adding_to_all : (s : State) (e : Entry) → Base s → s.loading ≡ false → ((t : TxnId) → Allows t (s.transactions t) e) → ((n : ℕ) → n < s.nodes → Fits (node_at s n) e) → LowEntry s.clock e
+    → Base (adding_to_all e s)
+base_adding_to_all s e b started allows fits = base_grown _ s e _ (all_grown s e) b started allows (λ n less on. fits n less)
+
+-- a change of one transaction, at it and elsewhere
 
 pub moved : (P : TxnId → Transaction → Type 0) (t u : TxnId) (x : Transaction) (transactions : TxnId → Transaction) → P t x → P u (transactions u) → P u (set_transaction t x transactions u)
-moved P t u x transactions here there = by (same_txn t u) refl where
-  by : (g : Bool) → same_txn t u ≡ g → P u (cond g x (transactions u))
-  by true is = subst (λ (z : TxnId). P z x) (txn_eq t u is) here
-  by false is = there
+moved P t u x transactions here there = cond_both (same_txn t u) x (transactions u) (P u) (λ is. subst (λ (z : TxnId). P z x) (txn_eq t u is) here) (λ is. there)
+
+pub self_moved : (t : TxnId) (x : Transaction) (transactions : TxnId → Transaction) → set_transaction t x transactions t ≡ x
+self_moved t x transactions = cond-true (same_txn t t) x (transactions t) (txn_self t)
+
+pub other_stays : (t u : TxnId) (x : Transaction) (transactions : TxnId → Transaction) → same_txn t u ≡ false → set_transaction t x transactions u ≡ transactions u
+other_stays t u x transactions = cond-false (same_txn t u) x (transactions u)
+
+-- a transaction of another actor
+pub another : (t u : TxnId) (k : ℕ) → t.actor ≢ k → u.actor ≡ k → same_txn t u ≡ false
+another t u k differ is = false_from_ne_true (same_txn t u) (λ same. differ (ap (λ (v : TxnId). v.actor) (txn_eq t u same) ∙ is))
 
 module _ (s : State) (t : TxnId) (change : Transaction → Transaction) where
   abbrev next : Transaction
@@ -179,13 +174,9 @@ module _ (s : State) (t : TxnId) (change : Transaction → Transaction) where
 
   moved_apart : Base s → ((u : TxnId) → 0 < next.write_stamp → next.write_stamp ≡ (s.transactions u).write_stamp → t ≡ u)
       → (u v : TxnId) → 0 < (set_transaction t next s.transactions u).write_stamp → (set_transaction t next s.transactions u).write_stamp ≡ (set_transaction t next s.transactions v).write_stamp → u ≡ v
-  moved_apart b apart u v = by (same_txn t u) (same_txn t v) refl refl where
-    by : (g h : Bool) → same_txn t u ≡ g → same_txn t v ≡ h → 0 < (cond g next (s.transactions u)).write_stamp
-        → (cond g next (s.transactions u)).write_stamp ≡ (cond h next (s.transactions v)).write_stamp → u ≡ v
-    by true true one two drawn is = sym (txn_eq t u one) ∙ txn_eq t v two
-    by true false one two drawn is = sym (txn_eq t u one) ∙ apart v drawn is
-    by false true one two drawn is = sym (apart u (omega arith) (sym is)) ∙ txn_eq t v two
-    by false false one two drawn is = b.apart u v drawn is
+  moved_apart b apart u v = moved (λ w x. 0 < x.write_stamp → x.write_stamp ≡ (set_transaction t next s.transactions v).write_stamp → w ≡ v) t u next s.transactions
+      (moved (λ w x. 0 < next.write_stamp → next.write_stamp ≡ x.write_stamp → t ≡ w) t v next s.transactions (λ drawn is. refl) (apart v))
+      (moved (λ w x. 0 < (s.transactions u).write_stamp → (s.transactions u).write_stamp ≡ x.write_stamp → u ≡ w) t v next s.transactions (λ drawn is. sym (apart u (omega arith) (sym is))) (b.apart u v))
 
   pub base_moving : Base s → s.loading ≡ false → Sane s.clock s.begins t next
       → ((a : Addr) → 0 < t.actor → HeldAt t next a (s.logs (home s a)))
@@ -203,44 +194,21 @@ module _ (s : State) (t : TxnId) (change : Transaction → Transaction) where
     first = λ loading. absurd (cc);
   }
 
--- the clock, the count of begins, and the end of loading
+-- a later clock, more begins, and the end of loading
 
-sane_clock : (m n : ℕ) (begins : ℕ → ℕ) (t : TxnId) (x : Transaction) → m ≤ n → Sane m begins t x → Sane n begins t x
-sane_clock m n begins t x le y = record {
-  fresh = y.fresh;
-  begun = y.begun;
-  current = y.current;
-  read = let z : x.read_stamp ≤ m = y.read in omega arith;
-  write = let z : x.write_stamp ≤ m = y.write in omega arith;
-  undrawn = y.undrawn;
-  drawn = y.drawn;
-  all_same = y.all_same;
-}
-
-pub base_ticking : (s : State) → Base s → IsStamp (s.clock + 1) → Base (record s { clock = s.clock + 1 })
-base_ticking s b stamp = record {
+pub base_counts : (s : State) (clock : ℕ) (begins : ℕ → ℕ) → Base s → s.clock ≤ clock → IsStamp clock → ((k : ℕ) → s.begins k ≤ begins k)
+    → ((t : TxnId) → (s.transactions t).is_open ≡ true → t.number ≡ begins t.actor) → Base (record s { clock = clock; begins = begins })
+base_counts s clock begins b le stamp more current = record {
   count = b.count;
-  clock = (omega arith, stamp);
+  clock = (let some : 0 < s.clock = b.clock.0 in omega arith, stamp);
   lists = λ n less. let l : Listed s.clock s.nodes n (s.logs n) = b.lists n less in
-      record { lawful = l.lawful; number = l.number; count = l.count; actors = l.actors; low = low_more s.clock (s.clock + 1) (node_at s n) (omega arith) l.low };
-  sane = λ t. sane_clock s.clock (s.clock + 1) s.begins t (s.transactions t) (omega arith) (b.sane t);
-  held = b.held;
-  same = b.same;
-  apart = b.apart;
-  first = b.first;
-}
-
-pub base_counting : (s : State) (k : ℕ) → Base s → NoneOpen s k → Base (counting_begin k s)
-base_counting s k b none = record {
-  count = b.count;
-  clock = b.clock;
-  lists = b.lists;
+      record { lawful = l.lawful; number = l.number; count = l.count; actors = l.actors; low = low_more s.clock clock (node_at s n) le l.low };
   sane = λ t. let y : Sane s.clock s.begins t (s.transactions t) = b.sane t in record {
     fresh = y.fresh;
-    begun = λ begun. let z = y.begun begun in (z.0, z.1, more t z.2 (eqb k t.actor), z.3);
-    current = λ is_open. still t is_open (y.current is_open) (eqb k t.actor) refl;
-    read = y.read;
-    write = y.write;
+    begun = λ begun. let z = y.begun begun in let old : t.number ≤ s.begins t.actor = z.2 in let now : s.begins t.actor ≤ begins t.actor = more t.actor in (z.0, z.1, omega arith, z.3);
+    current = current t;
+    read = let low : (s.transactions t).read_stamp ≤ s.clock = y.read in omega arith;
+    write = let low : (s.transactions t).write_stamp ≤ s.clock = y.write in omega arith;
     undrawn = y.undrawn;
     drawn = y.drawn;
     all_same = y.all_same;
@@ -249,69 +217,28 @@ base_counting s k b none = record {
   same = b.same;
   apart = b.apart;
   first = b.first;
-} where
-  more : (t : TxnId) → t.number ≤ s.begins t.actor → (g : Bool) → t.number ≤ cond g (s.begins t.actor + 1) (s.begins t.actor)
-  more t le true = omega arith
-  more t le false = le
+}
 
-  still : (t : TxnId) → (s.transactions t).is_open ≡ true → t.number ≡ s.begins t.actor → (g : Bool) → eqb k t.actor ≡ g → t.number ≡ cond g (s.begins t.actor + 1) (s.begins t.actor)
-  still t is_open is true same = let closed : (s.transactions t).is_open ≡ false = none t (sym (eqb-true k t.actor same)) in absurd (cc)
-  still t is_open is false same = is
+pub base_counting : (s : State) (k : ℕ) → Base s → NoneOpen s k → Base (counting_begin k s)
+base_counting s k b none = base_counts s s.clock (counting_begin k s).begins b (omega arith) b.clock.1
+    (λ j. cond_both (eqb k j) _ _ (λ n. s.begins j ≤ n) (λ is. omega arith) (λ is. omega arith))
+    (λ t is_open. cond_both (eqb k t.actor) _ _ (λ n. t.number ≡ n) (λ is. absurd (both_ways _ (none t (sym (eqb-true k t.actor is))) is_open)) (λ is. (b.sane t).current is_open))
 
 pub base_loading_over : (s : State) → Base s → Base (loading_over s)
 base_loading_over s b = record { count = b.count; clock = b.clock; lists = b.lists; sane = b.sane; held = b.held; same = b.same; apart = b.apart; first = λ loading. absurd (cc) }
 
--- the pins
-
-abbrev pub NoPin : Entry → Type 0
-NoPin (Open k c x) = ⊥
-NoPin (Shut k) = ⊥
-NoPin e = Unit {0}
-
-pins_still : (p : NodeState) (e : Entry) → NoPin e → (k : ℕ) → (after p e).pins k ≡ p.pins k
-pins_still p (Made m) bare k = refl
-pins_still p (Open j c x) bare k = absurd bare
-pins_still p (Shut j) bare k = absurd bare
-pins_still p (Read j b s (Ok found)) bare k = refl
-pins_still p (Read j b s (Err by)) bare k = refl
-pins_still p (Alloc u r v placed) bare k = refl
-pins_still p (Lock u b r value (Ok given)) bare k = refl
-pins_still p (Lock u b r value (Err fault)) bare k = refl
-pins_still p (Check u b r w (Ok same)) bare k = refl
-pins_still p (Check u b r w (Err fault)) bare k = refl
-pins_still p (Put u b w) bare k = refl
-pins_still p (Unlock u b) bare k = refl
-pins_still p (Collect j f removed) bare k = refl
-
-pinned_adding : (s : State) (n : ℕ) (e : Entry) → Pinned s → Lawful (s.logs n) → NoPin e → Pinned (adding n e s)
-pinned_adding s n e p lawful bare = record {
-  open_at = λ t m less is_open. same t.actor m (Some (s.transactions t).read_stamp) (p.open_at t m less is_open);
-  none_at = λ k m less none. same k m None (p.none_at k m less none);
-} where
-  same : (k m : ℕ) (pin : Option ℕ) → (node_at s m).pins k ≡ pin → (replay (set_log n (s.logs n ++ e ∷ []) s.logs m)).pins k ≡ pin
-  same k m pin is = grown (λ log. (replay log).pins k ≡ pin) n m (s.logs n ++ e ∷ []) s.logs
-      (λ here. ap (λ (q : NodeState). q.pins k) (replay_more (s.logs n) e lawful) ∙ (pins_still (node_at s n) e bare k ∙ (ap (λ (z : ℕ). (node_at s z).pins k) here ∙ is)))
-      is
-
-pinned_moving : (s : State) (t : TxnId) (change : Transaction → Transaction) → Pinned s
-    → (change (s.transactions t)).is_open ≡ (s.transactions t).is_open → (change (s.transactions t)).read_stamp ≡ (s.transactions t).read_stamp → Pinned (moving t change s)
-pinned_moving s t change p same_open same_read = record {
-  open_at = λ u n less. moved (λ z x. x.is_open ≡ true → (node_at s n).pins z.actor ≡ Some x.read_stamp) t u (change (s.transactions t)) s.transactions
-      (λ is_open. p.open_at t n less (sym same_open ∙ is_open) ∙ ap Some (sym same_read))
-      (λ is_open. p.open_at u n less is_open);
-  none_at = λ k n less none. p.none_at k n less (λ u actor. sym (still u) ∙ none u actor);
-} where
-  still : (u : TxnId) → (set_transaction t (change (s.transactions t)) s.transactions u).is_open ≡ (s.transactions u).is_open
-  still u = moved (λ z x. x.is_open ≡ (s.transactions z).is_open) t u (change (s.transactions t)) s.transactions same_open refl
-
--- both
+-- all, with the pins
 
 pub good_adding : (s : State) (n : ℕ) (e : Entry) → Good s → s.loading ≡ false → n < s.nodes → NoPin e → Fits (node_at s n) e → LowEntry s.clock e
     → ((t : TxnId) → Allows t (s.transactions t) e) → Good (adding n e s)
 good_adding s n e g started less bare fits low allows = record {
-  base = base_adding s e g.base started allows n less fits low;
-  pins = pinned_adding s n e g.pins (g.base.lists n less).lawful bare;
-}
+  base = base_grown _ s e _ (one_grown s n e) g.base started allows (λ m lower is. subst (λ (k : ℕ). Fits (node_at s k) e) is fits) low;
+  pins = record { open_at = λ t m lower is_open. same t.actor m (g.pins.open_at t m lower is_open); none_at = λ k m lower none. same k m (g.pins.none_at k m lower none) };
+} where
+  same : (k m : ℕ) {pin : Option ℕ} → (node_at s m).pins k ≡ pin → (node_at (adding n e s) m).pins k ≡ pin
+  same k m {pin} is = grown_at _ s e _ (one_grown s n e) m (λ log. (replay log).pins k ≡ pin)
+      (λ on. ap (λ (q : NodeState). q.pins k) (replay_more (s.logs m) e (subst (λ (j : ℕ). Lawful (s.logs j)) on (g.base.lists n less).lawful)) ∙ (ap (λ (pins : ℕ → Option ℕ). pins k) ((after_keeps (node_at s m) e).3 bare) ∙ is))
+      is
 
 pub good_moving : (s : State) (t : TxnId) (change : Transaction → Transaction) → Good s → s.loading ≡ false
     → (change (s.transactions t)).is_open ≡ (s.transactions t).is_open → (change (s.transactions t)).read_stamp ≡ (s.transactions t).read_stamp
@@ -322,5 +249,10 @@ pub good_moving : (s : State) (t : TxnId) (change : Transaction → Transaction)
     → Good (moving t change s)
 good_moving s t change g started same_open same_read sane held same apart = record {
   base = base_moving s t change g.base started sane held same apart;
-  pins = pinned_moving s t change g.pins same_open same_read;
+  pins = record {
+    open_at = λ u n less. moved (λ z x. x.is_open ≡ true → (node_at s n).pins z.actor ≡ Some x.read_stamp) t u (change (s.transactions t)) s.transactions
+        (λ is_open. g.pins.open_at t n less (sym same_open ∙ is_open) ∙ ap Some (sym same_read))
+        (g.pins.open_at u n less);
+    none_at = λ k n less none. g.pins.none_at k n less (λ u actor. sym (moved (λ z x. x.is_open ≡ (s.transactions z).is_open) t u (change (s.transactions t)) s.transactions same_open refl) ∙ none u actor);
+  };
 }

@@ -1,17 +1,11 @@
 -- Lists only grow once a transaction has begun, and its read stamp stays.
-use Rattle.std.proofs.Common.{◌≡◌, ◌≢◌, ℕ, ◌+◌, ◌≤◌, nat_lt, cond, true, false, List, [], ◌∷◌, ◌++◌, Option, Result, Ok, Err, sym, refl, ap, ◌∙◌, subst, ⊎_elim, arith, append_assoc, append-nil}
-use Rattle.a1_base.specs.declared.place.Addr.{Addr}
-use Rattle.a1_base.specs.declared.place.TxnId.{TxnId}
-use Rattle.farm_node.specs.declared.entry.Found.{Found}
-use Rattle.farm_node.specs.declared.entry.Locked.{Locked}
-use Rattle.farm_node.specs.declared.entry.CheckFault.{CheckFault}
-use Rattle.farm_node.specs.declared.entry.Entry.{Entry}
-use Rattle.farm_node.specs.Cell.{Bytes, read_answer, lock_answer, check_answer}
-use Rattle.farm_core.specs.declared.event.Event.{Event}
-use Rattle.farm_core.specs.declared.event.Event.TheVariants.{Load, Begin, Read, Alloc, Lock, Draw, Check, Put, Unlock, Shut, Collect}
-use Rattle.farm_core.specs.declared.event.Answer.{Answer}
-use Rattle.farm_core.specs.Machine.{Unbegun, Installing, Refused, Transaction, begun_at, in_stage, with_read, with_locked, with_same, drawn_at, ended, State, home, node_of, adding, adding_to_all, moving, Reads, Locks, Checks, Meets, Acts, Steps}
-use Rattle.farm_core.proofs.Good.{Good, grown, moved}
+use Rattle.std.proofs.Common.{◌≡◌, ◌≢◌, ℕ, ◌+◌, ◌≤◌, false, List, [], ◌∷◌, ◌++◌, Ok, Err, sym, refl, ap, ◌∙◌, subst, ⊎_elim, arith, append_assoc, append-nil}
+use Rattle.std.proofs.lemmas.Bool.{both_ways}
+use Rattle.farm_core.proofs.Words.{TxnId, Entry, read_answer, lock_answer, check_answer, Event, Answer, Unbegun}
+use Rattle.farm_core.proofs.Words.{Installing, Refused, Transaction, begun_at, in_stage, with_read, with_locked, with_same, drawn_at, ended, State, home}
+use Rattle.farm_core.proofs.Words.{node_of, adding, adding_to_all, moving, Reads, Locks, Checks, Meets, Acts, Steps}
+use Rattle.farm_core.specs.declared.event.Event.TheVariants as event
+use Rattle.farm_core.proofs.Good.{Good, Grown, one_grown, all_grown, grown_at, moved}
 
 -- a list that begins with another
 abbrev pub Extends : List Entry → List Entry → Type 0
@@ -48,21 +42,19 @@ pub grows_self : (s : State) → s.loading ≡ false → Grows s s
 grows_self s started = record { nodes = refl; started = started; logs = λ n. extends_self (s.logs n); begun = λ t. stays_self (s.transactions t) }
 
 module _ (s : State) (started : s.loading ≡ false) where
-  grows_adding : (n : ℕ) (e : Entry) → Grows s (adding n e s)
-  grows_adding n e = record {
+  grows_logs : (On : ℕ → Type 0) (e : Entry) (logs : ℕ → List Entry) → Grown On s e logs → Grows s (record s { logs = logs })
+  grows_logs On e logs grown = record {
     nodes = refl;
     started = started;
-    logs = λ m. grown (Extends (s.logs m)) n m (s.logs n ++ e ∷ []) s.logs (λ is. (e ∷ [], ap (λ (z : ℕ). s.logs z ++ e ∷ []) is)) (extends_self (s.logs m));
+    logs = λ n. grown_at On s e logs grown n (Extends (s.logs n)) (λ on. (e ∷ [], refl)) (extends_self (s.logs n));
     begun = λ t. stays_self (s.transactions t);
   }
 
+  grows_adding : (n : ℕ) (e : Entry) → Grows s (adding n e s)
+  grows_adding n e = grows_logs _ e _ (one_grown s n e)
+
   grows_adding_to_all : (e : Entry) → Grows s (adding_to_all e s)
-  grows_adding_to_all e = record {
-    nodes = refl;
-    started = started;
-    logs = λ n. elim (nat_lt n s.nodes) as (λ g. Extends (s.logs n) (cond g (s.logs n ++ e ∷ []) (s.logs n))) [ true ↦ (e ∷ [], refl) | false ↦ extends_self (s.logs n) ];
-    begun = λ t. stays_self (s.transactions t);
-  }
+  grows_adding_to_all e = grows_logs _ e _ (all_grown s e)
 
   grows_moving : (t : TxnId) (change : Transaction → Transaction) → Stays (s.transactions t) (change (s.transactions t)) → Grows s (moving t change s)
   grows_moving t change stays = record {
@@ -76,27 +68,15 @@ module _ (s : State) (started : s.loading ≡ false) where
   grows_both : (n : ℕ) (e : Entry) (t : TxnId) (change : Transaction → Transaction) → Stays (s.transactions t) (change (s.transactions t)) → Grows s (moving t change (adding n e s))
   grows_both n e t change stays = grows_twice s (adding n e s) (moving t change (adding n e s)) (grows_adding s started n e) (grows_moving (adding n e s) started t change stays)
 
-  refused_stays : (t : TxnId) → Stays (s.transactions t) (in_stage Refused (s.transactions t))
-  refused_stays t begun = ((λ is. cc), refl)
+  grows_refused : (n : ℕ) (e : Entry) (t : TxnId) → Grows s (moving t (in_stage Refused) (adding n e s))
+  grows_refused n e t = grows_both n e t (in_stage Refused) (λ begun. ((λ is. cc), refl))
 
   moves : (d next : State) → next ≡ d → Grows s d → Grows s next
-  moves d next is g = subst (λ (z : State). Grows s z) (sym is) g
-
-  grows_read : (t : TxnId) (a : Addr) (r : ℕ) (y : Result Found TxnId) (x : Answer) (next : State) → Reads s t a r y x next → Grows s next
-  grows_read t a r (Ok found) x next acts = moves _ next acts.1 (grows_both (home s a) _ t (with_read a) (stays_self (s.transactions t)))
-  grows_read t a r (Err by) x next acts = moves _ next acts.1 (grows_adding s started (home s a) _)
-
-  grows_lock : (t : TxnId) (a : Addr) (r : ℕ) (value : Option Bytes) (y : Result Locked CheckFault) (x : Answer) (next : State) → Locks s t a r value y x next → Grows s next
-  grows_lock t a r value (Ok given) x next acts = moves _ next acts.1 (grows_both (home s a) _ t (with_locked a) (stays_self (s.transactions t)))
-  grows_lock t a r value (Err fault) x next acts = moves _ next acts.1 (grows_both (home s a) _ t (in_stage Refused) (refused_stays t))
-
-  grows_check : (t : TxnId) (a : Addr) (r w : ℕ) (y : Result (Unit {0}) CheckFault) (x : Answer) (next : State) → Checks s t a r w y x next → Grows s next
-  grows_check t a r w (Ok same) x next acts = moves _ next acts.1 (grows_both (home s a) _ t (with_same a) (stays_self (s.transactions t)))
-  grows_check t a r w (Err fault) x next acts = moves _ next acts.1 (grows_both (home s a) _ t (in_stage Refused) (refused_stays t))
+  moves d next is g = subst (Grows s) (sym is) g
 
   grows_act : (e : Event) (x : Answer) (next : State) → Good s → Meets s e → Acts s e x next → Grows s next
-  grows_act (Load a bytes) x next g meets acts = let loading : s.loading ≡ true = meets.0 in absurd (cc)
-  grows_act (Begin t) x next g meets acts = moves _ next acts.1 (record {
+  grows_act (event.Load a bytes) x next g meets = λ acts. absurd (both_ways s.loading started meets.0)
+  grows_act (event.Begin t) x next g meets = λ acts. moves _ next acts.1 (record {
     nodes = refl;
     started = refl;
     logs = (grows_adding_to_all s started _).logs;
@@ -105,23 +85,29 @@ module _ (s : State) (started : s.loading ≡ false) where
         let number : t.number ≡ s.begins t.actor + 1 = meets.1 in
         absurd (omega arith))).begun;
   })
-  grows_act (Read t a) x next g meets acts = grows_read t a (s.transactions t).read_stamp (read_answer (s.transactions t).read_stamp ((node_of s a).cells a)) x next acts
-  grows_act (Alloc t n bytes) x next g meets acts = ⊎_elim
+  grows_act (event.Read t a) x next g meets = elim (read_answer (s.transactions t).read_stamp ((node_of s a).cells a)) as (λ y. Reads s t a (s.transactions t).read_stamp y x next → Grows s next) [
+    | Ok found ↦ λ acts. moves _ next acts.1 (grows_both (home s a) _ t (with_read a) (stays_self (s.transactions t)))
+    | Err by ↦ λ acts. moves _ next acts.1 (grows_adding s started (home s a) _)
+  ]
+  grows_act (event.Alloc t n bytes) x next g meets = ⊎_elim
       (λ y. moves _ next y.2.1 (grows_both n _ t (with_locked y.0) (stays_self (s.transactions t))))
-      (λ y. moves _ next y.1.1 (grows_moving s started t (in_stage Refused) (refused_stays t)))
-      acts
-  grows_act (Lock t a value) x next g meets acts = grows_lock t a (s.transactions t).read_stamp value (lock_answer t (s.transactions t).read_stamp ((node_of s a).cells a)) x next acts
-  grows_act (Draw t) x next g meets acts = ⊎_elim
+      (λ y. moves _ next y.1.1 (grows_moving s started t (in_stage Refused) (λ begun. ((λ is. cc), refl))))
+  grows_act (event.Lock t a value) x next g meets = elim (lock_answer t (s.transactions t).read_stamp ((node_of s a).cells a)) as (λ y. Locks s t a (s.transactions t).read_stamp value y x next → Grows s next) [
+    | Ok given ↦ λ acts. moves _ next acts.1 (grows_both (home s a) _ t (with_locked a) (stays_self (s.transactions t)))
+    | Err fault ↦ λ acts. moves _ next acts.1 (grows_refused (home s a) _ t)
+  ]
+  grows_act (event.Draw t) x next g meets = ⊎_elim
       (λ y. moves _ next y.1.1 (record { nodes = refl; started = started; logs = λ n. extends_self (s.logs n); begun = (grows_moving s started t (drawn_at (s.clock + 1)) (λ begun. ((λ is. cc), refl))).begun }))
-      (λ y. moves _ next y.1.1 (grows_moving s started t (in_stage Refused) (refused_stays t)))
-      acts
-  grows_act (Check t a) x next g meets acts =
-      grows_check t a (s.transactions t).read_stamp (s.transactions t).write_stamp (check_answer (s.transactions t).read_stamp ((node_of s a).cells a)) x next acts
-  grows_act (Put t a) x next g meets acts = moves _ next acts.1 (grows_both (home s a) _ t (in_stage Installing) (λ begun. ((λ is. cc), refl)))
-  grows_act (Unlock t a) x next g meets acts = moves _ next acts.1 (grows_both (home s a) _ t (in_stage Refused) (refused_stays t))
-  grows_act (Shut t) x next g meets acts = moves _ next acts.1
+      (λ y. moves _ next y.1.1 (grows_moving s started t (in_stage Refused) (λ begun. ((λ is. cc), refl))))
+  grows_act (event.Check t a) x next g meets = elim (check_answer (s.transactions t).read_stamp ((node_of s a).cells a)) as (λ y. Checks s t a (s.transactions t).read_stamp (s.transactions t).write_stamp y x next → Grows s next) [
+    | Ok same ↦ λ acts. moves _ next acts.1 (grows_both (home s a) _ t (with_same a) (stays_self (s.transactions t)))
+    | Err fault ↦ λ acts. moves _ next acts.1 (grows_refused (home s a) _ t)
+  ]
+  grows_act (event.Put t a) x next g meets = λ acts. moves _ next acts.1 (grows_both (home s a) _ t (in_stage Installing) (λ begun. ((λ is. cc), refl)))
+  grows_act (event.Unlock t a) x next g meets = λ acts. moves _ next acts.1 (grows_refused (home s a) _ t)
+  grows_act (event.Shut t) x next g meets = λ acts. moves _ next acts.1
       (grows_twice s (adding_to_all _ s) (moving t ended (adding_to_all _ s)) (grows_adding_to_all s started _) (grows_moving (adding_to_all _ s) started t ended (stays_self (s.transactions t))))
-  grows_act (Collect n) x next g meets acts = moves _ next acts.1 (record { nodes = refl; started = refl; logs = (grows_adding s started n _).logs; begun = λ t. stays_self (s.transactions t) })
+  grows_act (event.Collect n) x next g meets = λ acts. moves _ next acts.1 (record { nodes = refl; started = refl; logs = (grows_adding s started n _).logs; begun = λ t. stays_self (s.transactions t) })
 
   pub grows_step : (e : Event) (x : Answer) (next : State) → Good s → Steps s e x next → Grows s next
   grows_step e x next g step = ⊎_elim (λ done. grows_act e x next g done.0 done.1) (λ lacks. moves s next lacks.1.1 (grows_self s started)) step

@@ -1,22 +1,15 @@
 -- What one transaction's phase says of one address: of its lock there, and of its puts.
-use Rattle.std.proofs.Common.{◌≡◌, ◌≢◌, ◌⊎◌, ℕ, ◌<◌, ◌≤◌, max, cond, Bool, true, false, List, ◌∷◌, Option, Some, None, Ok, ◌||◌, sym, refl, ap, ◌∙◌, subst, inl, inr, ⊎_elim, arith}
-use Rattle.a1_base.specs.declared.place.Addr.{Addr}
-use Rattle.a1_base.specs.declared.place.TxnId.{TxnId}
-use Rattle.object_region.specs.Occupancy.{same_addr}
-use Rattle.version_chain.specs.Versions.{newest}
-use Rattle.farm_node.specs.declared.hold.Hold.{Hold}
-use Rattle.farm_node.specs.declared.entry.Entry.{Entry}
-use Rattle.farm_node.specs.declared.entry.Entry.TheVariants.{Alloc, Lock, Put, Unlock}
-use Rattle.farm_node.specs.Cell.{Cell, same_txn, is_open as is_free, is_gone}
-use Rattle.farm_node.specs.NodeState.{NodeState, HeldBy}
-use Rattle.farm_node.specs.Story.{Given, gives, Installed, Story}
-use Rattle.a1_base.specs.Lists.{IsAmong}
+use Rattle.std.proofs.Common.{◌≡◌, ◌≢◌, ◌⊎◌, ℕ, ◌<◌, ◌≤◌, max, cond, Bool, true, false, List, Option, Some, None, Ok, sym, refl, ap, ◌∙◌, subst, inl, inr, ⊎_elim, arith}
+use Rattle.std.proofs.lemmas.Bool.{both_ways, or_cases, cond-true}
+use Rattle.farm_core.proofs.Words.{cut, with_addr, Addr, TxnId, same_addr, newest, Hold, Entry, Cell, same_txn, NodeState, HeldBy, Given, gives, Installed, Story}
+use Rattle.farm_core.proofs.Words.{IsAmong, Stage, Refused, Transaction, unbegun, begun_at, drawn_at, with_locked, ended}
+use Rattle.farm_node.specs.declared.entry.Entry.TheVariants as entry
+use Rattle.farm_node.specs.Cell as cell
 use Rattle.farm_node.proofs.Addresses.{and_left, addr_eq}
 use Rattle.farm_node.proofs.Sound.{txn_self}
 use Rattle.farm_node.proofs.Steps.{Keeps}
 use Rattle.farm_node.proofs.Chains.{newest_cut}
 use Rattle.farm_node.proofs.Stories.{Below}
-use Rattle.farm_core.specs.Machine.{Stage, Refused, Transaction, unbegun, begun_at, drawn_at, with_locked, ended}
 use Rattle.farm_core.proofs.Low.{BoundLow}
 
 -- the transaction has the lock
@@ -30,14 +23,10 @@ Holds t None = ⊥
 Holds t (Some c) = HasLock t c.lock
 
 pub holds_held : (p : NodeState) (t : TxnId) (a : Addr) → Holds t (p.cells a) → HeldBy p t a
-holds_held p t a holds = by (p.cells a) refl holds where
-  on : (c : Cell) (l : Option Hold) → p.cells a ≡ Some c → c.lock ≡ l → HasLock t l → HeldBy p t a
-  on c None is lock has = absurd has
-  on c (Some k) is lock has = (c, k, is, lock, has)
-
+holds_held p t a = by (p.cells a) refl where
   by : (c : Option Cell) → p.cells a ≡ c → Holds t c → HeldBy p t a
   by None is has = absurd has
-  by (Some c) is has = on c c.lock is refl has
+  by (Some c) is has = elim c.lock as (λ l. c.lock ≡ l → HasLock t l → HeldBy p t a) [ None ↦ λ lock none. absurd none | Some k ↦ λ lock own. (c, k, is, lock, own) ] refl has
 
 -- the transaction has put
 abbrev pub HasPut : TxnId → List Installed → Type 0
@@ -66,31 +55,22 @@ pub record Held (t : TxnId) (x : Transaction) (a : Addr) (c : Option Cell) (past
 
 -- an entry of the transaction is one that its phase allows
 abbrev pub Allows : TxnId → Transaction → Entry → Type 0
-Allows t x (Alloc u r v placed) = u ≡ t → (x.is_open ≡ true) × (x.write_stamp ≡ 0) × (r ≡ x.read_stamp)
-Allows t x (Lock u b r new (Ok given)) = u ≡ t → (x.is_open ≡ true) × (x.write_stamp ≡ 0) × (r ≡ x.read_stamp)
-Allows t x (Put u b w) = u ≡ t → (w ≡ x.write_stamp) × (0 < x.write_stamp)
-Allows t x (Unlock u b) = u ≡ t → x.stage ≡ Refused
+Allows t x (entry.Alloc u r v placed) = u ≡ t → (x.is_open ≡ true) × (x.write_stamp ≡ 0) × (r ≡ x.read_stamp)
+Allows t x (entry.Lock u b r new (Ok given)) = u ≡ t → (x.is_open ≡ true) × (x.write_stamp ≡ 0) × (r ≡ x.read_stamp)
+Allows t x (entry.Put u b w) = u ≡ t → (w ≡ x.write_stamp) × (0 < x.write_stamp)
+Allows t x (entry.Unlock u b) = u ≡ t → x.stage ≡ Refused
 Allows t x e = Unit {0}
 
 no_lock : (t : TxnId) (l : Option Hold) → l ≡ None → HasLock t l → ⊥
 no_lock t l is has = subst (λ (z : Option Hold). HasLock t z) is has
 
-not_free : (t : TxnId) (l : Option Hold) → is_free l ≡ true → HasLock t l → ⊥
+not_free : (t : TxnId) (l : Option Hold) → cell.is_open l ≡ true → HasLock t l → ⊥
 not_free t None free has = has
 not_free t (Some k) free has = cc
 
 -- two that have one lock are one
 same_holder : (t u : TxnId) (l : Option Hold) (k : Hold) → l ≡ Some k → k.by ≡ u → HasLock t l → u ≡ t
 same_holder t u l k is own has = let e : k.by ≡ t = subst (λ (z : Option Hold). HasLock t z) is has in sym own ∙ e
-
-holds_lock : (t u : TxnId) (l : Option Hold) (k : Hold) → l ≡ Some k → k.by ≡ u → u ≡ t → HasLock t l
-holds_lock t u l k is own same = subst (λ (z : Option Hold). HasLock t z) (sym is) (own ∙ same)
-
-given_own : (t u : TxnId) (g : Given) (h : Story) → u ≡ t → cond (same_txn u t) g (h.given t) ≡ g
-given_own t u g h same = ap (λ (b : Bool). cond b g (h.given t)) (ap (λ (z : TxnId). same_txn z t) same ∙ txn_self t)
-
-puts_more : (t : TxnId) (i : Installed) (puts : List Installed) → HasPut t puts → HasPut t (i ∷ puts)
-puts_more t i puts has = (has.0, inr has.1, has.2)
 
 module _ (t : TxnId) (x : Transaction) (a : Addr) where
   -- a lock that is given newly
@@ -102,7 +82,7 @@ module _ (t : TxnId) (x : Transaction) (a : Addr) where
       record {
         is_open = ok.0;
         low = λ drawn. absurd (omega arith);
-        read = ap (λ (g : Given). g.read) (given_own t u (gives r v) h mine) ∙ ok.2;
+        read = ap (λ (g : Given). g.read) (cond-true (same_txn u t) (gives r v) (h.given t) (ap (λ (z : TxnId). same_txn z t) mine ∙ txn_self t)) ∙ ok.2;
       }
 
   ended_locked : (u : TxnId) (l : Option Hold) (k : Hold) (puts : List Installed) → l ≡ Some k → k.by ≡ u → (u ≡ t → x.stage ≡ Refused) → x.stage ≢ Refused → HasLock t l ⊎ HasPut t puts → HasPut t puts
@@ -124,27 +104,20 @@ module _ (t : TxnId) (x : Transaction) (a : Addr) where
   pub held : Keeps a (Allows t x) (Held t x a)
   held = record {
     aside = λ c past past' floor h le y. record { below = y.below; puts = y.puts; holding = y.holding; locked = y.locked };
-    looked = λ c s past floor h free y. record {
-      below = let b : newest c.versions ≤ c.bound = y.below in omega arith;
-      puts = y.puts;
-      holding = looked_holding c s h y.below free y.holding;
-      locked = y.locked;
-    };
+    looked = λ c s past floor h free y. let b : newest c.versions ≤ c.bound = y.below in
+        record { below = omega arith; puts = y.puts; holding = looked_holding c s h y.below free y.holding; locked = y.locked };
     made = λ u r v placed past floor h making y. record {
       below = omega arith;
       puts = y.puts;
-      holding = λ mine. given_holding u r placed.bound (Some v) h making.fits mine;
+      holding = given_holding u r placed.bound (Some v) h making.fits;
       locked = λ is going. ⊎_elim (λ none. absurd none) (λ put. inr put) (y.locked is going);
     };
     locked = λ u b r new given c past floor h locking y. record {
       below = y.below;
       puts = y.puts;
-      holding = λ mine. given_holding u r c.bound new h locking.fits mine;
+      holding = given_holding u r c.bound new h locking.fits;
       locked = λ is going. ⊎_elim
-          (λ (has : HasLock t c.lock). inl (⊎_elim
-          (λ (none : c.lock ≡ None). absurd (no_lock t c.lock none has))
-          (λ own. same_holder t u c.lock own.0 own.1 own.2 has)
-          locking.free))
+          (λ (has : HasLock t c.lock). inl (⊎_elim (λ none. absurd (no_lock t c.lock none has)) (λ own. same_holder t u c.lock own.0 own.1 own.2 has) locking.free))
           (λ put. inr put)
           (y.locked is going);
     };
@@ -154,16 +127,16 @@ module _ (t : TxnId) (x : Transaction) (a : Addr) where
           (λ is. subst (λ (z : Installed). z.by ≡ t → IsPut x z) is
           (λ (same : u ≡ t).
           let ok = ending.fits same in
-          let had : Holding t x c.bound h = y.holding (holds_lock t u c.lock ending.hold ending.lock ending.own same) in
+          let had : Holding t x c.bound h = y.holding (subst (λ (l : Option Hold). HasLock t l) (sym ending.lock) (ending.own ∙ same)) in
           record { stamp = ok.0; drawn = ok.1; read = ap (λ (z : TxnId). (h.given z).read) same ∙ had.read })
           mine)
           (λ more. y.puts i more mine)
           there;
       holding = λ none. absurd none;
-      locked = λ is going. ⊎_elim
-          (λ (has : HasLock t c.lock). inr (_, inl refl, same_holder t u c.lock ending.hold ending.lock ending.own has))
-          (λ put. inr (puts_more t _ h.puts put))
-          (y.locked is going);
+      locked = λ is going. inr (⊎_elim
+          (λ (has : HasLock t c.lock). (_, inl refl, same_holder t u c.lock ending.hold ending.lock ending.own has))
+          (λ put. (put.0, inr put.1, put.2))
+          (y.locked is going));
     };
     unlocked = λ u b c past floor h ending y. record {
       below = y.below;
@@ -177,60 +150,43 @@ module _ (t : TxnId) (x : Transaction) (a : Addr) where
       holding = tt;
       locked = λ is going. inr (ended_locked u c.lock ending.hold h.puts ending.lock ending.own ending.fits going (y.locked is going));
     };
-    cut = λ c past past' floor floor' h le more y. record {
-      below = subst (λ (n : ℕ). n ≤ c.bound) (sym (newest_cut floor' c.versions)) y.below;
-      puts = y.puts;
-      holding = y.holding;
-      locked = y.locked;
-    };
-    went = λ c past past' floor floor' h le more gone high y. record {
-      below = tt;
-      puts = y.puts;
-      holding = tt;
-      locked = λ is going. ⊎_elim (λ has. absurd (not_free t c.lock (and_left (is_free c.lock) (is_gone floor' c.versions) gone) has)) (λ put. inr put) (y.locked is going);
-    };
+    cut = λ c past past' floor floor' h le more y. let kept : newest (cut floor' c.versions) ≤ c.bound = subst (λ (n : ℕ). n ≤ c.bound) (sym (newest_cut floor' c.versions)) y.below in
+        record { below = kept; puts = y.puts; holding = y.holding; locked = y.locked };
+    went = λ c past past' floor floor' h le more gone high y. let free = not_free t c.lock (and_left (cell.is_open c.lock) (cell.is_gone floor' c.versions) gone) in
+        record { below = tt; puts = y.puts; holding = tt; locked = λ is going. ⊎_elim (λ has. absurd (free has)) (λ put. inr put) (y.locked is going) };
     none = λ past past' floor floor' h le more y. record { below = tt; puts = y.puts; holding = tt; locked = y.locked };
   }
 
 -- a phase moves on
 
-holding_moved : (t : TxnId) (x y : Transaction) (c : Option Cell) (h : Story) → ((bound : ℕ) → Holding t x bound h → Holding t y bound h) → HoldingCell t x c h → HoldingCell t y c h
-holding_moved t x y None h moved holding = tt
-holding_moved t x y (Some c) h moved holding = λ has. moved c.bound (holding has)
+holding_moved : (t : TxnId) (x z : Transaction) (c : Option Cell) (h : Story) → (Holds t c → (bound : ℕ) → Holding t x bound h → Holding t z bound h) → HoldingCell t x c h → HoldingCell t z c h
+holding_moved t x z None h moved holding = tt
+holding_moved t x z (Some c) h moved holding = λ has. moved has c.bound (holding has)
 
 module _ (t : TxnId) (x : Transaction) (a : Addr) (c : Option Cell) (past floor : ℕ) (h : Story) where
+  -- a change that leaves the stamps
+  held_with : (stage : Stage) (is_open : Bool) (reads locks sames : Addr → Bool) → (Holds t c → x.is_open ≡ true → is_open ≡ true) → (locks a ≡ true → stage ≢ Refused → Holds t c ⊎ HasPut t h.puts)
+      → Held t x a c past floor h → Held t (record x { stage = stage; is_open = is_open; has_read = reads; had_locked = locks; is_same = sames }) a c past floor h
+  held_with stage is_open reads locks sames opens locked y = record {
+    below = y.below;
+    puts = λ i there mine. let z : IsPut x i = y.puts i there mine in record { stamp = z.stamp; drawn = z.drawn; read = z.read };
+    holding = holding_moved t x (record x { stage = stage; is_open = is_open; has_read = reads; had_locked = locks; is_same = sames }) c h
+        (λ has bound z. record { is_open = opens has z.is_open; low = z.low; read = z.read }) y.holding;
+    locked = locked;
+  }
+
   -- a change of the stage, and of what was read or is the same
   pub held_staged : (stage : Stage) (reads sames : Addr → Bool) → (stage ≢ Refused → x.stage ≢ Refused) → Held t x a c past floor h
       → Held t (record x { stage = stage; has_read = reads; is_same = sames }) a c past floor h
-  held_staged stage reads sames going y = record {
-    below = y.below;
-    puts = λ i there mine. let z : IsPut x i = y.puts i there mine in record { stamp = z.stamp; drawn = z.drawn; read = z.read };
-    holding = holding_moved t x (record x { stage = stage; has_read = reads; is_same = sames }) c h (λ bound z. record { is_open = z.is_open; low = z.low; read = z.read }) y.holding;
-    locked = λ is on. y.locked is (going on);
-  }
+  held_staged stage reads sames going y = held_with stage x.is_open reads x.had_locked sames (λ has is. is) (λ is on. y.locked is (going on)) y
 
   -- a lock that it has
   pub held_locked : (b : Addr) → (b ≡ a → Holds t c) → Held t x a c past floor h → Held t (with_locked b x) a c past floor h
-  held_locked b has y = record {
-    below = y.below;
-    puts = λ i there mine. let z : IsPut x i = y.puts i there mine in record { stamp = z.stamp; drawn = z.drawn; read = z.read };
-    holding = holding_moved t x (with_locked b x) c h (λ bound z. record { is_open = z.is_open; low = z.low; read = z.read }) y.holding;
-    locked = by (same_addr b a) refl;
-  } where
-    by : (g : Bool) → same_addr b a ≡ g → (g || x.had_locked a) ≡ true → x.stage ≢ Refused → Holds t c ⊎ HasPut t h.puts
-    by true same is going = inl (has (addr_eq b a same))
-    by false same is going = y.locked is going
+  held_locked b has y = held_with x.stage x.is_open x.has_read (with_addr b x.had_locked) x.is_same (λ has is. is)
+      (λ is going. ⊎_elim (λ same. inl (has (addr_eq b a same))) (λ old. y.locked old going) (or_cases (same_addr b a) (x.had_locked a) is)) y
 
   pub held_ended : (Holds t c → ⊥) → Held t x a c past floor h → Held t (ended x) a c past floor h
-  held_ended free y = record {
-    below = y.below;
-    puts = λ i there mine. let z : IsPut x i = y.puts i there mine in record { stamp = z.stamp; drawn = z.drawn; read = z.read };
-    holding = by c free;
-    locked = y.locked;
-  } where
-    by : (c : Option Cell) → (Holds t c → ⊥) → HoldingCell t (ended x) c h
-    by None free = tt
-    by (Some c) free = λ has. absurd (free has)
+  held_ended free y = held_with x.stage false x.has_read x.had_locked x.is_same (λ has. absurd (free has)) y.locked y
 
   -- a draw above every bound
   pub held_drawn : (clock w : ℕ) → x.write_stamp ≡ 0 → x.stage ≢ Refused → BoundLow clock c → clock < w → Held t x a c past floor h → Held t (drawn_at w x) a c past floor h
@@ -248,9 +204,6 @@ module _ (t : TxnId) (x : Transaction) (a : Addr) (c : Option Cell) (past floor 
   held_begun r is y = record {
     below = y.below;
     puts = λ i there mine. let z : 0 < x.write_stamp = (y.puts i there mine).drawn in let undrawn : x.write_stamp ≡ 0 = ap (λ (z : Transaction). z.write_stamp) is in absurd (omega arith);
-    holding = by c y.holding;
+    holding = holding_moved t x (begun_at r) c h (λ has bound z. absurd (both_ways _ (ap (λ (w : Transaction). w.is_open) is) z.is_open)) y.holding;
     locked = λ locked going. absurd (cc);
-  } where
-    by : (c : Option Cell) → HoldingCell t x c h → HoldingCell t (begun_at r) c h
-    by None holding = tt
-    by (Some c) holding = λ has. let z : x.is_open ≡ true = (holding has).is_open in let closed : x.is_open ≡ false = ap (λ (z : Transaction). z.is_open) is in absurd (cc)
+  }

@@ -1,13 +1,8 @@
 -- Every stamp of a node's state is at most the clock.
-use Rattle.std.proofs.Common.{◌≡◌, ℕ, zero, suc, ◌≤◌, max, cond, true, false, List, [], ◌∷◌, Option, Some, None, Ok, Err, arith}
-use Rattle.a1_base.specs.declared.place.Addr.{Addr}
-use Rattle.object_region.specs.Occupancy.{same_addr}
-use Rattle.version_chain.specs.Versions.{cut}
-use Rattle.farm_node.specs.declared.entry.Entry.{Entry}
-use Rattle.farm_node.specs.declared.entry.Entry.TheVariants.{Made, Open, Shut, Read, Alloc, Lock, Check, Put, Unlock, Collect}
-use Rattle.farm_node.specs.Cell.{Cell, raised_to, past_raised, locked_by, installed, released, past_released, goes, collected, past_collected}
-use Rattle.farm_node.specs.NodeState.{NodeState, set_cell, places, least_pin, new_floor, past_over, Fits, looked_at, after, lesser}
-use Rattle.a1_base.specs.declared.place.TxnId.{TxnId}
+use Rattle.std.proofs.Common.{◌≡◌, ℕ, zero, suc, ◌≤◌, max, cond, true, false, List, [], ◌∷◌, Option, Some, None, Ok, arith}
+use Rattle.farm_core.proofs.Words.{Addr, same_addr, cut, Entry, Cell, raised_to, past_raised, locked_by, installed, released, past_released, goes, collected}
+use Rattle.farm_core.proofs.Words.{past_collected, NodeState, set_cell, places, least_pin, new_floor, past_over, Fits, looked_at, after, lesser, TxnId}
+use Rattle.farm_node.specs.declared.entry.Entry.TheVariants as entry
 
 abbrev pub BoundLow : ℕ → Option Cell → Type 0
 BoundLow clock None = Unit {0}
@@ -20,11 +15,11 @@ pub record Low (clock : ℕ) (p : NodeState) : Type 0 where
 
 -- the stamps that an entry brings in
 abbrev pub LowEntry : ℕ → Entry → Type 0
-LowEntry clock (Read k a s answer) = s ≤ clock
-LowEntry clock (Alloc t r v placed) = r ≤ clock
-LowEntry clock (Check t a r w answer) = w ≤ clock
-LowEntry clock (Put t a w) = w ≤ clock
-LowEntry clock (Collect k f removed) = f ≤ clock
+LowEntry clock (entry.Read k a s told) = s ≤ clock
+LowEntry clock (entry.Alloc t r v placed) = r ≤ clock
+LowEntry clock (entry.Check t a r w told) = w ≤ clock
+LowEntry clock (entry.Put t a w) = w ≤ clock
+LowEntry clock (entry.Collect k f removed) = f ≤ clock
 LowEntry clock e = Unit {0}
 
 bound_more : (m n : ℕ) (c : Option Cell) → m ≤ n → BoundLow m c → BoundLow n c
@@ -92,28 +87,26 @@ module _ (clock : ℕ) where
   }
 
   pub low_after : (p : NodeState) (e : Entry) → Fits p e → LowEntry clock e → Low clock p → Low clock (after p e)
-  low_after p (Made m) fits le low = low
-  low_after p (Open k c x) fits le low = record { cells = low.cells; past = low.past; floor = low.floor }
-  low_after p (Shut k) fits le low = record { cells = low.cells; past = low.past; floor = low.floor }
-  low_after p (Read k b s (Ok found)) fits le low = low_looked p b s le low
-  low_after p (Read k b s (Err by)) fits le low = low
-  low_after p (Alloc u r v placed) fits le low = record {
-    cells = λ a. low_set placed.at a _ p.cells (let is : placed.bound ≡ max p.past r = fits.3 in let past : p.past ≤ clock = low.past in (let x : placed.bound ≤ clock = omega arith in x)) (low.cells a);
-    past = low.past;
-    floor = low.floor;
-  }
-  low_after p (Lock u b r new (Ok given)) fits le low = record { cells = λ a. low_set b a _ p.cells (low_locked u new (p.cells b) (low.cells b)) (low.cells a); past = low.past; floor = low.floor }
-  low_after p (Lock u b r new (Err fault)) fits le low = low
-  low_after p (Check u b r w (Ok same)) fits le low = low_looked p b w le low
-  low_after p (Check u b r w (Err fault)) fits le low = low
-  low_after p (Put u b w) fits le low = record { cells = λ a. low_set b a _ p.cells (low_installed w (p.cells b) le) (low.cells a); past = low.past; floor = low.floor }
-  low_after p (Unlock u b) fits le low = record {
+  low_after p (entry.Open k c x) fits le low = record { cells = low.cells; past = low.past; floor = low.floor }
+  low_after p (entry.Shut k) fits le low = record { cells = low.cells; past = low.past; floor = low.floor }
+  low_after p (entry.Read k b s (Ok found)) fits le low = low_looked p b s le low
+  low_after p (entry.Alloc u r v placed) fits le low =
+      let past : p.past ≤ clock = low.past in
+      let is : placed.bound ≡ max p.past r = fits.3 in
+      let bound : placed.bound ≤ clock = omega arith in
+      record { cells = λ a. low_set placed.at a _ p.cells bound (low.cells a); past = low.past; floor = low.floor }
+  low_after p (entry.Lock u b r new (Ok given)) fits le low =
+      record { cells = λ a. low_set b a _ p.cells (low_locked u new (p.cells b) (low.cells b)) (low.cells a); past = low.past; floor = low.floor }
+  low_after p (entry.Check u b r w (Ok same)) fits le low = low_looked p b w le low
+  low_after p (entry.Put u b w) fits le low = record { cells = λ a. low_set b a _ p.cells (low_installed w (p.cells b) le) (low.cells a); past = low.past; floor = low.floor }
+  low_after p (entry.Unlock u b) fits le low = record {
     cells = λ a. low_set b a _ p.cells (low_released (p.cells b) (low.cells b)) (low.cells a);
     past = low_past_released p.past (p.cells b) low.past (low.cells b);
     floor = low.floor;
   }
-  low_after p (Collect k f removed) fits le low = record {
+  low_after p (entry.Collect k f removed) fits le low = record {
     cells = λ a. low_collected (new_floor p f) (p.cells a) (low.cells a);
     past = low_past_over (new_floor p f) p.past p.cells (places p.regions) low.past low.cells;
     floor = let x : p.floor ≤ clock = low.floor in let y : least_pin f p.pins p.actors ≤ clock = least_low f p.pins p.actors le in omega arith;
   }
+  low_after p e fits le low = low

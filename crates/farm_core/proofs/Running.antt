@@ -1,20 +1,13 @@
 -- Events one after another, and the farm before any event.
-use Rattle.std.proofs.Common.{◌≡◌, ℕ, zero, suc, ◌+◌, ◌<◌, ◌≤◌, eqb, Bool, true, false, List, [], ◌∷◌, ◌++◌, length, take, get_or, Option, None, Result, Ok, Err, sym, refl, ap, ◌∙◌, subst, length-append, OnErr, arith}
-use Rattle.std.proofs.lemmas.List.{take_more, take_all}
-use Rattle.std.proofs.lemmas.Bool.{eqb-true, eqb-false}
-use Rattle.a1_base.specs.declared.limits.TheConstants.{NODE_LIMIT}
-use Rattle.farm_node.specs.declared.node.Node.{Node}
-use Rattle.farm_node.specs.declared.entry.Entry.TheVariants.{Made}
-use Rattle.farm_node.specs.NodeState.{replay}
-use Rattle.farm_node.specs.Node.{plain_of, StandsFor}
-use Rattle.farm_core.specs.declared.event.Event.{Event}
-use Rattle.farm_core.specs.declared.event.Answer.{Answer}
-use Rattle.farm_core.specs.declared.active.Active.{Active}
-use Rattle.farm_core.specs.declared.farm.Slot.{Slot}
-use Rattle.farm_core.specs.declared.farm.Farm.{Farm}
-use Rattle.farm_core.specs.Machine.{State, InRange, Runs, start_of, fresh}
-use Rattle.farm_core.specs.Standing.{plains, NodesStand}
-use Rattle.farm_core.specs.Farms.{OpenStands, Stands, StepsTo, RunsTo, AreNew}
+use Rattle.std.proofs.Common.{◌≡◌, ℕ, ◌+◌, ◌<◌, ◌≤◌, true, List, [], ◌∷◌, ◌++◌, length, take, get_or, Option, None, Result, Ok, Err, sym, refl, ap, ◌∙◌, subst, length-append, OnErr, ⊎_elim, arith}
+use Rattle.std.proofs.lemmas.List.{take_more}
+use Rattle.std.proofs.lemmas.Bool.{cases_eq}
+use Rattle.std.proofs.Math.ListN.{get_or-append}
+use Rattle.std.proofs.Math.Seq.{get_or-append_seam}
+use Rattle.farm_core.proofs.NodeLists.{plains_index}
+use Rattle.farm_core.proofs.Words.{NODE_LIMIT, Node, replay, plain_of, StandsFor, Event, Answer, Active, Slot, Farm, State, InRange, Runs, start_of, fresh}
+use Rattle.farm_core.proofs.Words.{plains, NodesStand, OpenStands, Stands, StepsTo, RunsTo, AreNew}
+use Rattle.farm_node.specs.declared.entry.Entry.TheVariants as entry
 use Rattle.farm_core.proofs.Farming.{runs_more}
 
 -- one more answer
@@ -41,38 +34,28 @@ ran_still first now later events i answers count ran still s st =
     let before = ran s st in
     (before.0, subst (λ (n : ℕ). Runs s (take n events) answers before.0) (sym count) before.1, still before.0 before.2)
 
-pub all_ran : (first now : Farm) (events : List Event) (i : ℕ) (answers : List Answer) → length answers ≡ i
-    → ((s : State) → Stands first s → RunsTo s (take i events) answers (Stands now))
-    → (s : State) → Stands first s → RunsTo s (take (length answers) events) answers (Stands now)
-all_ran first now events i answers count ran = ran_still first now now events i answers count ran (λ s st. st)
-
 -- the beginning
 
-pub plains_last : (nodes : List Node) (v : Node) (n : ℕ) → n ≡ length nodes → plains (nodes ++ v ∷ []) n ≡ plain_of v
-plains_last [] v zero is = refl
-plains_last [] v (suc n) is = absurd (omega arith)
-plains_last (x ∷ xs) v zero is = absurd (omega arith)
-plains_last (x ∷ xs) v (suc n) is = plains_last xs v n (omega arith)
+plains_last : (nodes : List Node) (v : Node) (n : ℕ) → n ≡ length nodes → plains (nodes ++ v ∷ []) n ≡ plain_of v
+plains_last nodes v n is = sym (plains_index (nodes ++ v ∷ []) n v (let long : length (nodes ++ v ∷ []) ≡ length nodes + 1 = length-append nodes (v ∷ []) in omega arith))
+    ∙ ap plain_of (ap (λ (m : ℕ). get_or (nodes ++ v ∷ []) m v) is ∙ get_or-append_seam nodes v [] v)
 
-pub plains_front : (nodes : List Node) (v : Node) (n : ℕ) → n < length nodes → plains (nodes ++ v ∷ []) n ≡ plains nodes n
-plains_front [] v n low = absurd (omega arith)
-plains_front (x ∷ xs) v zero low = refl
-plains_front (x ∷ xs) v (suc n) low = plains_front xs v n (omega arith)
+plains_front : (nodes : List Node) (v : Node) (n : ℕ) → n < length nodes → plains (nodes ++ v ∷ []) n ≡ plains nodes n
+plains_front nodes v n low = sym (plains_index (nodes ++ v ∷ []) n v (let long : length (nodes ++ v ∷ []) ≡ length nodes + 1 = length-append nodes (v ∷ []) in omega arith))
+    ∙ (ap plain_of (get_or-append nodes (v ∷ []) v n low) ∙ plains_index nodes n v low)
 
 pub record NodesBegun (count number : ℕ) (nodes : List Node) : Type 0 where
   pub made : length nodes ≡ number
-  pub each : (n : ℕ) → n < number → plains nodes n ≡ replay (Made (start_of count n) ∷ [])
+  pub each : (n : ℕ) → n < number → plains nodes n ≡ replay (entry.Made (start_of count n) ∷ [])
 
-pub begun_more : (count number : ℕ) (nodes : List Node) (v : Node) → NodesBegun count number nodes → StandsFor v (Made (start_of count number) ∷ []) → NodesBegun count (number + 1) (nodes ++ v ∷ [])
+pub begun_more : (count number : ℕ) (nodes : List Node) (v : Node) → NodesBegun count number nodes → StandsFor v (entry.Made (start_of count number) ∷ []) → NodesBegun count (number + 1) (nodes ++ v ∷ [])
 begun_more count number nodes v b stands = record {
   made = length-append nodes (v ∷ []) ∙ ap (λ (n : ℕ). n + 1) b.made;
-  each = λ n less. by n less (eqb n number) refl;
-} where
-  by : (n : ℕ) → n < number + 1 → (g : Bool) → eqb n number ≡ g → plains (nodes ++ v ∷ []) n ≡ replay (Made (start_of count n) ∷ [])
-  by n less true is = let same : n ≡ number = eqb-true n number is in
-      plains_last nodes v n (same ∙ sym b.made) ∙ (stands.state ∙ ap (λ (m : ℕ). replay (Made (start_of count m) ∷ [])) (sym same))
-  by n less false is = let differ : n ≡ number → ⊥ = eqb-false n number is in let made : length nodes ≡ number = b.made in let low : n < number = omega arith in
-      plains_front nodes v n (omega arith) ∙ b.each n low
+  each = λ n less. ⊎_elim
+      (λ (is : n ≡ number). plains_last nodes v n (is ∙ sym b.made) ∙ (stands.state ∙ ap (λ (m : ℕ). replay (entry.Made (start_of count m) ∷ [])) (sym is)))
+      (λ (differ : n ≡ number → ⊥). let made : length nodes ≡ number = b.made in let low : n < number = omega arith in plains_front nodes v n (omega arith) ∙ b.each n low)
+      (cases_eq n number);
+}
 
 pub fresh_stands : (farm : Farm) (count : ℕ) → 0 < count → count ≤ NODE_LIMIT → NodesStand farm.nodes.items count (fresh count).logs → farm.clock ≡ 1 → farm.loading ≡ true → AreNew farm.slots.items → Stands farm (fresh count)
 fresh_stands farm count some few nodes clock_is loading_is slots = record {
@@ -88,17 +71,6 @@ fresh_stands farm count some few nodes clock_is loading_is slots = record {
 
 -- a slot more that is new
 
-slot_front : (slots : List Slot) (v d : Slot) (k : ℕ) → k < length slots → get_or (slots ++ v ∷ []) k d ≡ get_or slots k d
-slot_front [] v d k low = absurd (omega arith)
-slot_front (x ∷ xs) v d zero low = refl
-slot_front (x ∷ xs) v d (suc k) low = slot_front xs v d k (omega arith)
-
-slot_last : (slots : List Slot) (v d : Slot) (k : ℕ) → k ≡ length slots → get_or (slots ++ v ∷ []) k d ≡ v
-slot_last [] v d zero is = refl
-slot_last [] v d (suc k) is = absurd (omega arith)
-slot_last (x ∷ xs) v d zero is = absurd (omega arith)
-slot_last (x ∷ xs) v d (suc k) is = slot_last xs v d k (omega arith)
-
 abbrev pub IsNew : Slot → Type 0
 IsNew slot = (slot.begins ≡ 0) × (slot.open ≡ None)
 
@@ -106,20 +78,7 @@ pub record NewTo (number : ℕ) (slots : List Slot) : Type 0 where
   pub made : length slots ≡ number
   pub each : (k : ℕ) (d : Slot) → k < number → IsNew (get_or slots k d)
 
-pub new_more : (number : ℕ) (slots : List Slot) (v : Slot) → NewTo number slots → IsNew v → NewTo (number + 1) (slots ++ v ∷ [])
-new_more number slots v b new = record {
-  made = length-append slots (v ∷ []) ∙ ap (λ (n : ℕ). n + 1) b.made;
-  each = λ k d less. by k d less (eqb k number) refl;
-} where
-  by : (k : ℕ) (d : Slot) → k < number + 1 → (g : Bool) → eqb k number ≡ g → IsNew (get_or (slots ++ v ∷ []) k d)
-  by k d less true is = let same : k ≡ number = eqb-true k number is in subst IsNew (sym (slot_last slots v d k (same ∙ sym b.made))) new
-  by k d less false is = let differ : k ≡ number → ⊥ = eqb-false k number is in let made : length slots ≡ number = b.made in
-      subst IsNew (sym (slot_front slots v d k (omega arith))) (b.each k d (omega arith))
-
 -- the core
-
-pub take_whole : {X : Type 0} (xs : List X) (n : ℕ) → n ≡ length xs → take n xs ≡ xs
-take_whole xs n same = take_all n xs (omega arith)
 
 pub on_err : {T E : Type 0} (r : Result T E) (P : Type 0) → P → OnErr r P
 on_err (Ok x) P p = tt

@@ -1,26 +1,21 @@
 -- The laws of a good state.
-use Rattle.std.proofs.Common.{◌≡◌, ℕ, ◌<◌, ◌≤◌, Bool, true, false, List, ◌∷◌, ◌++◌, Ok, sym, refl, ap, ◌∙◌, subst, inr, ⊎_elim, arith, append_assoc}
-use Rattle.a1_base.specs.declared.place.Addr.{Addr}
-use Rattle.a1_base.specs.declared.place.TxnId.{TxnId}
-use Rattle.farm_node.specs.declared.entry.Found.{Found}
-use Rattle.farm_node.specs.declared.entry.Entry.{Entry}
-use Rattle.farm_node.specs.declared.entry.Entry.TheVariants.{Read}
-use Rattle.farm_node.specs.NodeState.{Lawful}
-use Rattle.farm_node.specs.Story.{Installed, story, value_at, stamped_bytes}
+use Rattle.std.proofs.Common.{◌≡◌, ℕ, ◌<◌, ◌≤◌, true, List, ◌∷◌, ◌++◌, Ok, sym, refl, ap, ◌∙◌, subst, inr, ⊎_elim, arith, append_assoc}
+use Rattle.std.proofs.lemmas.Bool.{both_ways, cases_Bool}
+use Rattle.farm_core.proofs.Words.{Addr, TxnId, Found, Entry, Lawful, Installed, story, value_at, stamped_bytes, Installing, State, home, node_of}
+use Rattle.farm_node.specs.declared.entry.Entry.TheVariants as entry
 use Rattle.farm_node.proofs.ReadsStay.{reads, pins}
 use Rattle.farm_node.proofs.PutsStay.{puts}
-use Rattle.farm_core.specs.Machine.{Installing, State, home, node_of}
 use Rattle.farm_core.specs.Serial.{log_of, ValueStands, HasInstalled, HasTouched, SerialOrder, SnapshotsKept}
 use Rattle.farm_core.proofs.Held.{IsPut, HasPut, holds_held}
 use Rattle.farm_core.proofs.Good.{SameIn, Good, home_low}
 
 -- what an entry answered stands
 
-pub entered_stands : (log : List Entry) (k r : ℕ) (a : Addr) (found : Found) (before rest : List Entry) → Lawful log → log ≡ before ++ Read k a r (Ok found) ∷ rest → ValueStands log a r (stamped_bytes found)
+pub entered_stands : (log : List Entry) (k r : ℕ) (a : Addr) (found : Found) (before rest : List Entry) → Lawful log → log ≡ before ++ entry.Read k a r (Ok found) ∷ rest → ValueStands log a r (stamped_bytes found)
 entered_stands log k r a found before rest lawful is = record {
   whole = ap (λ (es : List Entry). value_at es a r) is ∙ reads.read before rest k a r found (subst Lawful is lawful);
   longer = λ more all.
-      let parts : log ++ more ≡ before ++ Read k a r (Ok found) ∷ (rest ++ more) = ap (λ (es : List Entry). es ++ more) is ∙ append_assoc before (Read k a r (Ok found) ∷ rest) more in
+      let parts : log ++ more ≡ before ++ entry.Read k a r (Ok found) ∷ (rest ++ more) = ap (λ (es : List Entry). es ++ more) is ∙ append_assoc before (entry.Read k a r (Ok found) ∷ rest) more in
       ap (λ (es : List Entry). value_at es a r) parts ∙ reads.read before (rest ++ more) k a r found (subst Lawful parts all);
 }
 
@@ -29,9 +24,6 @@ module _ (s : State) (g : Good s) where
   lawful a = (g.base.lists (home s a) (home_low s a g.base.count.0)).lawful
 
   -- the serial order
-
-  later : (t : TxnId) → HasInstalled s t → (s.transactions t).read_stamp < (s.transactions t).write_stamp
-  later t done = (g.base.sane t).drawn (inr done.0)
 
   actor_of : (t : TxnId) → HasInstalled s t → 0 < t.actor
   actor_of t done = let stage : (s.transactions t).stage ≡ Installing = done.0 in ((g.base.sane t).begun (λ none. cc)).0
@@ -63,18 +55,14 @@ module _ (s : State) (g : Good s) where
   steady : (t : TxnId) (a : Addr) (stamp : ℕ) → HasInstalled s t → HasTouched s t a → (s.transactions t).read_stamp ≤ stamp → stamp < (s.transactions t).write_stamp
       → value_at (log_of s a) a stamp ≡ value_at (log_of s a) a (s.transactions t).read_stamp
   steady t a stamp done touched low high = ⊎_elim
-      (λ read. by read ((s.transactions t).had_locked a) refl)
       (λ locked. steady_put t a stamp done (installs t a done locked) low high)
-      touched where
-        by : (s.transactions t).has_read a ≡ true → (b : Bool) → (s.transactions t).had_locked a ≡ b
-            → value_at (log_of s a) a stamp ≡ value_at (log_of s a) a (s.transactions t).read_stamp
-        by read true is = steady_put t a stamp done (installs t a done is) low high
-        by read false is = steady_same t a stamp (g.base.same t a ((g.base.sane t).all_same done.0 a read is)) low high
+      (λ free. steady_same t a stamp (g.base.same t a ((g.base.sane t).all_same done.0 a (⊎_elim (λ read. read) (λ locked. absurd (both_ways _ free locked)) touched) free)) low high)
+      (cases_Bool ((s.transactions t).had_locked a))
 
   pub serial : SerialOrder s
   serial = record {
     apart = g.base.apart;
-    later = later;
+    later = λ t done. (g.base.sane t).drawn (inr done.0);
     puts = λ a i there actor. ((g.base.held i.by actor a).puts i there refl).stamp;
     installs = installs;
     steady = steady;

@@ -3,11 +3,8 @@ use Rattle.std.proofs.Common.{◌≡◌, ◌↔◌, Bool, true, false, cond, not
 use Rattle.std.proofs.lemmas.Bool.{eqb-true, eq-eqb, ne_eqb, false≢true}
 use Rattle.std.specs.BTreeSet.{BTreeSet, btree_set_len}
 use Rattle.std.specs.List.{list_any}
-use Rattle.a1_base.specs.declared.place.Addr.{Addr}
-use Rattle.object_region.specs.Occupancy.{same_addr}
+use Rattle.farm_core.proofs.Words.{Addr, same_addr, with_addr, ReadSet, marks, without_addr, reading, unread}
 use Rattle.farm_node.proofs.Addresses.{addr_eq, same_self}
-use Rattle.farm_core.specs.Machine.{with_addr}
-use Rattle.farm_core.specs.ReadSet.{ReadSet, marks, without_addr, reading, unread}
 
 taken_back_at : (a b : Addr) (m : Addr → Bool) → m a ≡ false → without_addr a (with_addr a m) b ≡ m b
 taken_back_at a b m none = by (same_addr a b) refl where
@@ -17,9 +14,6 @@ taken_back_at a b m none = by (same_addr a b) refl where
 
 pub taken_back : (a : Addr) (m : Addr → Bool) → m a ≡ false → without_addr a (with_addr a m) ≡ m
 taken_back a m none = λ i b. taken_back_at a b m none i
-
-pub undone : (a : Addr) (r : ReadSet) → r.read a ≡ false → r.unchecked a ≡ false → unread a (reading a r) ≡ r
-undone a r none free = λ i. record { read = taken_back a r.read none i; unchecked = taken_back a r.unchecked free i }
 
 put_again_at : (a b : Addr) (m : Addr → Bool) → m a ≡ true → with_addr a m b ≡ m b
 put_again_at a b m there = by (same_addr a b) refl where
@@ -60,4 +54,4 @@ pub undone_if : (a : Addr) (new : Bool) (r between later : ReadSet) → r.read a
 undone_if a new r between later same is put taken = by (r.read a) refl where
   by : (b : Bool) → r.read a ≡ b → later ≡ r
   by true there = taken ∙ (ap (λ (n : Bool). cond n (unread a between) between) (is ∙ ap not there) ∙ (put ∙ read_again a r there (sym same ∙ there)))
-  by false none = taken ∙ (ap (λ (n : Bool). cond n (unread a between) between) (is ∙ ap not none) ∙ (ap (unread a) put ∙ undone a r none (sym same ∙ none)))
+  by false none = taken ∙ (ap (λ (n : Bool). cond n (unread a between) between) (is ∙ ap not none) ∙ (ap (unread a) put ∙ (λ i. record { read = taken_back a r.read none i; unchecked = taken_back a r.unchecked (sym same ∙ none) i })))

@@ -1,18 +1,9 @@
 -- The slot of an actor, and the events of its transactions.
 use Rattle.std.proofs.Common.{◌≡◌, ◌≢◌, ℕ, true, false, List, Option, Some, None, Result, Ok, Err, sym, refl, ap, ◌∙◌, subst, inr, ⊎_elim}
-use Rattle.a1_base.specs.declared.Memory.{Memory}
-use Rattle.a1_base.specs.declared.place.Addr.{Addr}
-use Rattle.a1_base.specs.declared.place.TxnId.{TxnId}
-use Rattle.farm_node.specs.declared.node.Node.{Node}
-use Rattle.farm_core.specs.declared.event.Event.{Event}
-use Rattle.farm_core.specs.declared.event.Event.TheVariants.{Load, Begin, Read, Alloc, Lock, Draw, Check, Put, Unlock, Shut, Collect}
-use Rattle.farm_core.specs.declared.event.Answer.{Answer}
-use Rattle.farm_core.specs.declared.event.Answer.TheVariants.{No}
-use Rattle.farm_core.specs.declared.active.Active.{Active}
-use Rattle.farm_core.specs.declared.farm.Slot.{Slot}
-use Rattle.farm_core.specs.Machine.{State, HoldsLockAt, Meets}
-use Rattle.farm_core.specs.Standing.{Reached, StandsOpen, in_list, At, AtClock, Aside, Stepped, IsOf}
-use Rattle.farm_core.specs.Farms.{OpenStands, SlotAt}
+use Rattle.farm_core.proofs.Words.{Memory, Addr, TxnId, Node, Event, Answer, Active, Slot, State, HoldsLockAt, Meets, Reached, StandsOpen, in_list, At, AtClock}
+use Rattle.farm_core.proofs.Words.{Aside, Stepped, IsOf, OpenStands, SlotAt}
+use Rattle.farm_core.specs.declared.event.Event.TheVariants as event
+use Rattle.farm_core.specs.declared.event.Answer.TheVariants as answer
 use Rattle.farm_core.proofs.Good.{Good}
 use Rattle.farm_core.proofs.Changes.{good}
 
@@ -20,17 +11,14 @@ pub aside_self : (t : TxnId) (s : State) → Aside t s s
 aside_self t s = record { nodes = refl; begins = refl; loading = refl; others = λ u other. refl; held = λ u a other held. held }
 
 meets_open : (s : State) (t : TxnId) (e : Event) → IsOf t e → Meets s e → (s.transactions t).is_open ≡ true
-meets_open s t (Load a bytes) own meets = absurd own
-meets_open s t (Begin u) own meets = absurd own
-meets_open s t (Read u a) own meets = ap (λ (v : TxnId). (s.transactions v).is_open) (sym own) ∙ meets.0.0
-meets_open s t (Alloc u n bytes) own meets = ap (λ (v : TxnId). (s.transactions v).is_open) (sym own) ∙ meets.0
-meets_open s t (Lock u a new) own meets = ap (λ (v : TxnId). (s.transactions v).is_open) (sym own) ∙ meets.0.0
-meets_open s t (Draw u) own meets = ap (λ (v : TxnId). (s.transactions v).is_open) (sym own) ∙ meets.0.0
-meets_open s t (Check u a) own meets = ap (λ (v : TxnId). (s.transactions v).is_open) (sym own) ∙ meets.0.0
-meets_open s t (Put u a) own meets = ap (λ (v : TxnId). (s.transactions v).is_open) (sym own) ∙ ⊎_elim (λ z. z.0) (λ z. z.0) meets.0
-meets_open s t (Unlock u a) own meets = ap (λ (v : TxnId). (s.transactions v).is_open) (sym own) ∙ ⊎_elim (λ z. z.0) (λ more. ⊎_elim (λ z. z.0) (λ z. z.0) more) meets.0
-meets_open s t (Shut u) own meets = absurd own
-meets_open s t (Collect n) own meets = absurd own
+meets_open s t (event.Read u a) own meets = ap (λ (v : TxnId). (s.transactions v).is_open) (sym own) ∙ meets.0.0
+meets_open s t (event.Alloc u n bytes) own meets = ap (λ (v : TxnId). (s.transactions v).is_open) (sym own) ∙ meets.0
+meets_open s t (event.Lock u a new) own meets = ap (λ (v : TxnId). (s.transactions v).is_open) (sym own) ∙ meets.0.0
+meets_open s t (event.Draw u) own meets = ap (λ (v : TxnId). (s.transactions v).is_open) (sym own) ∙ meets.0.0
+meets_open s t (event.Check u a) own meets = ap (λ (v : TxnId). (s.transactions v).is_open) (sym own) ∙ meets.0.0
+meets_open s t (event.Put u a) own meets = ap (λ (v : TxnId). (s.transactions v).is_open) (sym own) ∙ ⊎_elim (λ z. z.0) (λ z. z.0) meets.0
+meets_open s t (event.Unlock u a) own meets = ap (λ (v : TxnId). (s.transactions v).is_open) (sym own) ∙ ⊎_elim (λ z. z.0) (⊎_elim (λ z. z.0) (λ z. z.0)) meets.0
+meets_open s t e own meets = absurd own
 
 module _ (s : State) (r : Reached s) (t : TxnId) (slot : Slot) (nodes : List Node) (clock : ℕ) (at : SlotAt slot nodes clock t s) where
   g : Good s
@@ -68,7 +56,7 @@ module _ (s : State) (r : Reached s) (t : TxnId) (slot : Slot) (nodes : List Nod
   slot_stepped e z after later_clock (Ok x) same stepped = (stepped.0, stepped.1, stepped.2, slot_back z after later_clock stepped.0 same stepped.2.begins stepped.3)
   slot_stepped e z after later_clock (Err m) same stepped = slot_back z after later_clock s same refl stepped
 
-  pub not_open : (e : Event) → ((s.transactions t).is_open ≡ true → ⊥) → IsOf t e → Stepped t s e (Ok No) (SlotAt slot nodes clock t)
+  pub not_open : (e : Event) → ((s.transactions t).is_open ≡ true → ⊥) → IsOf t e → Stepped t s e (Ok answer.No) (SlotAt slot nodes clock t)
   not_open e closed own = (s, inr (λ meets. closed (meets_open s t e own meets), (refl, refl)), aside_self t s, at)
 
   pub not_latest : slot.begins ≢ t.number → (s.transactions t).is_open ≡ true → ⊥

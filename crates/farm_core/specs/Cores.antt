@@ -11,11 +11,12 @@ pub record Shown : Type 0 where
   pub farm : Farm
   pub done : ℕ
 
--- The state is one that some run from the beginning leads to, and the core has its clock, its nodes and its loading, and
--- of each actor how often it began and the transaction that is open. Of a transaction that has ended it knows nothing
+-- The state is one that some run from the beginning leads to, and the core has its clock, its nodes and its loading,
+-- and of each actor how often it began and the transaction that is open. Of a transaction that has ended it knows nothing
 abbrev pub CoreStands : Shown → State → Type 0
 CoreStands core s = Stands core.farm s
 
+-- how many nodes the core has
 abbrev pub node_count : Shown → ℕ
 node_count core = length core.farm.nodes.items
 
@@ -26,5 +27,6 @@ counted_on done more = min (done + more) (2 ^ 64 - 1)
 -- the first of the events were answered, and nothing more came to pass
 abbrev pub RanFront : State → List Event → Shown → Shown → Type 0
 RanFront s events old new =
-    (answers : List Answer) × (later : State) × (length answers ≤ length events) × Runs s (take (length answers) events) answers later × CoreStands new later
+    (answers : List Answer) × (later : State) × (length answers ≤ length events)
+    × Runs s (take (length answers) events) answers later × CoreStands new later
     × (new.done ≡ counted_on old.done (length answers))

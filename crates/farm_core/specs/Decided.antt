@@ -5,4 +5,6 @@ use Rattle.farm_core.specs.declared.event.Answer.{Answer}
 use Rattle.farm_core.specs.Machine.{State, Runs}
 
 abbrev pub OneRun : Type 0
-OneRun = (s first second : State) (events : List Event) (xs ys : List Answer) → Runs s events xs first → Runs s events ys second → (xs ≡ ys) × (first ≡ second)
+OneRun =
+    (s first second : State) (events : List Event) (xs ys : List Answer) → Runs s events xs first
+    → Runs s events ys second → (xs ≡ ys) × (first ≡ second)

@@ -8,7 +8,7 @@ use Rattle.farm_node.specs.declared.node.Node.{Node}
 use Rattle.farm_node.specs.declared.entry.Entry.{Entry}
 use Rattle.farm_node.specs.NodeState.{NodeState, Adds}
 use Rattle.farm_core.specs.declared.event.Event.{Event}
-use Rattle.farm_core.specs.declared.event.Event.TheVariants.{Shut}
+use Rattle.farm_core.specs.declared.event.Event.TheVariants as event
 use Rattle.farm_core.specs.declared.event.Answer.{Answer}
 use Rattle.farm_core.specs.declared.active.Active.{Active}
 use Rattle.farm_core.specs.declared.farm.Slot.{Slot}
@@ -48,7 +48,8 @@ StepsTo s e (Err m) P = P s
 
 -- one entry behind each node's list
 abbrev pub AddsEach : (NodeState → Entry) → List Node → List Node → Type 0
-AddsEach entry nodes later = (n : ℕ) → n < length nodes → Adds (plains nodes n) (entry (plains nodes n)) (plains later n)
+AddsEach makes nodes later =
+    (n : ℕ) → n < length nodes → Adds (plains nodes n) (makes (plains nodes n)) (plains later n)
 
 -- the actor has no transaction open, and the number is the next
 abbrev pub may_begin : Slot → ℕ → Bool
@@ -56,8 +57,12 @@ may_begin slot number = not (is_some slot.open) && (slot.begins + 1 == number)
 
 -- the slot's transaction has ended, or may not end
 abbrev pub Shuts : Slot → List Node → TxnId → Bool → Slot → Type 0
-Shuts slot nodes t true later = ((s : State) (clock : ℕ) → Reached s → SlotAt slot nodes clock t s → Meets s (Shut t)) × (later.begins ≡ slot.begins) × (later.open ≡ None)
-Shuts slot nodes t false later = (s : State) (clock : ℕ) → Reached s → SlotAt slot nodes clock t s → (Meets s (Shut t) → ⊥) × SlotAt later nodes clock t s
+Shuts slot nodes t true later =
+    ((s : State) (clock : ℕ) → Reached s → SlotAt slot nodes clock t s → Meets s (event.Shut t))
+    × (later.begins ≡ slot.begins) × (later.open ≡ None)
+Shuts slot nodes t false later =
+    (s : State) (clock : ℕ) → Reached s → SlotAt slot nodes clock t s → (Meets s (event.Shut t) → ⊥)
+    × SlotAt later nodes clock t s
 
 -- events one after another, each with its answer
 abbrev pub RunsTo : State → List Event → List Answer → (State → Type 0) → Type 0
@@ -66,4 +71,5 @@ RunsTo s events answers P = (later : State) × Runs s events answers later × P 
 -- no actor has begun
 pub record AreNew (slots : List Slot) : Type 0 where
   pub count : length slots ≡ ACTOR_LIMIT + 1
-  pub each : (k : ℕ) (d : Slot) → k ≤ ACTOR_LIMIT → ((slice_index_or slots k d).begins ≡ 0) × ((slice_index_or slots k d).open ≡ None)
+  pub each : (k : ℕ) (d : Slot) → k ≤ ACTOR_LIMIT → ((slice_index_or slots k d).begins ≡ 0)
+      × ((slice_index_or slots k d).open ≡ None)

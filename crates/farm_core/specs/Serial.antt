@@ -5,21 +5,23 @@ use Rattle.a1_base.specs.declared.place.Addr.{Addr}
 use Rattle.a1_base.specs.declared.place.TxnId.{TxnId}
 use Rattle.farm_node.specs.declared.entry.Found.{Found}
 use Rattle.farm_node.specs.declared.entry.Entry.{Entry}
-use Rattle.farm_node.specs.declared.entry.Entry.TheVariants.{Read as ReadEntry}
+use Rattle.farm_node.specs.declared.entry.Entry.TheVariants as entry
 use Rattle.farm_node.specs.Cell.{Bytes, found_at}
 use Rattle.farm_node.specs.NodeState.{Lawful}
 use Rattle.farm_node.specs.Story.{Installed, story, value_at, stamped_bytes}
 use Rattle.farm_node.specs.Laws.{versions_at}
 use Rattle.a1_base.specs.Lists.{IsAmong}
 use Rattle.farm_core.specs.declared.event.Event.{Event}
-use Rattle.farm_core.specs.declared.event.Event.TheVariants.{Read}
+use Rattle.farm_core.specs.declared.event.Event.TheVariants as event
 use Rattle.farm_core.specs.declared.event.Answer.{Answer}
-use Rattle.farm_core.specs.declared.event.Answer.TheVariants.{Value, Absent}
+use Rattle.farm_core.specs.declared.event.Answer.TheVariants as answer
 use Rattle.farm_core.specs.Machine.{Installing, State, home, node_at, HoldsLock, Runs, fresh}
 
 -- P holds of the events of every run, of their answers, and of the state that they leave
 abbrev pub InEveryRun : (List Event → List Answer → State → Type 0) → Type 0
-InEveryRun P = (nodes : ℕ) (events : List Event) (answers : List Answer) (s : State) → 0 < nodes → nodes ≤ NODE_LIMIT → Runs (fresh nodes) events answers s → P events answers s
+InEveryRun P =
+    (nodes : ℕ) (events : List Event) (answers : List Answer) (s : State) → 0 < nodes → nodes ≤ NODE_LIMIT
+    → Runs (fresh nodes) events answers s → P events answers s
 
 -- the list of an address's node
 abbrev pub log_of : State → Addr → List Entry
@@ -32,8 +34,9 @@ pub record ValueStands (log : List Entry) (a : Addr) (stamp : ℕ) (value : Opti
 
 -- what a read was answered is the value at the read stamp
 abbrev pub AnswerStands : State → Event → Answer → Type 0
-AnswerStands s (Read t a) (Value stamp bytes) = ValueStands (log_of s a) a (s.transactions t).read_stamp (Some (stamp, bytes))
-AnswerStands s (Read t a) (Absent stamp) = ValueStands (log_of s a) a (s.transactions t).read_stamp None
+AnswerStands s (event.Read t a) (answer.Value stamp bytes) =
+    ValueStands (log_of s a) a (s.transactions t).read_stamp (Some (stamp, bytes))
+AnswerStands s (event.Read t a) (answer.Absent stamp) = ValueStands (log_of s a) a (s.transactions t).read_stamp None
 AnswerStands s e x = Unit {0}
 
 abbrev pub EachAnswer : (Event → Answer → Type 0) → List Event → List Answer → Type 0
@@ -45,7 +48,8 @@ pub record ReadsWhole (events : List Event) (answers : List Answer) (s : State) 
   -- every value that a read event was answered
   pub answered : EachAnswer (AnswerStands s) events answers
   -- every value in a read's entry
-  pub entered : (n k r : ℕ) (a : Addr) (found : Found) (before rest : List Entry) → n < s.nodes → s.logs n ≡ before ++ ReadEntry k a r (Ok found) ∷ rest
+  pub entered : (n k r : ℕ) (a : Addr) (found : Found) (before rest : List Entry) → n < s.nodes
+      → s.logs n ≡ before ++ entry.Read k a r (Ok found) ∷ rest
       → ValueStands (s.logs n) a r (stamped_bytes found)
 
 -- it has begun to install, and nothing is left to install
@@ -60,19 +64,24 @@ HasTouched s t a = ((s.transactions t).has_read a ≡ true) ⊎ ((s.transactions
 -- each has the heap that it read
 pub record SerialOrder (s : State) : Type 0 where
   -- two transactions that drew have different write stamps
-  pub apart : (t u : TxnId) → 0 < (s.transactions t).write_stamp → (s.transactions t).write_stamp ≡ (s.transactions u).write_stamp → t ≡ u
+  pub apart : (t u : TxnId) → 0 < (s.transactions t).write_stamp
+      → (s.transactions t).write_stamp ≡ (s.transactions u).write_stamp → t ≡ u
   -- the read stamp is below the write stamp
   pub later : (t : TxnId) → HasInstalled s t → (s.transactions t).read_stamp < (s.transactions t).write_stamp
   -- every put of an actor is at the write stamp of its transaction
-  pub puts : (a : Addr) (i : Installed) → IsAmong i (story a (log_of s a)).puts → 0 < i.by.actor → i.stamp ≡ (s.transactions i.by).write_stamp
+  pub puts : (a : Addr) (i : Installed) → IsAmong i (story a (log_of s a)).puts → 0 < i.by.actor
+      → i.stamp ≡ (s.transactions i.by).write_stamp
   -- what it had locked it has put
-  pub installs : (t : TxnId) (a : Addr) → HasInstalled s t → (s.transactions t).had_locked a ≡ true → (i : Installed) × IsAmong i (story a (log_of s a)).puts × (i.by ≡ t)
+  pub installs : (t : TxnId) (a : Addr) → HasInstalled s t → (s.transactions t).had_locked a ≡ true
+      → (i : Installed) × IsAmong i (story a (log_of s a)).puts × (i.by ≡ t)
   -- what it read or had locked keeps from its read stamp to its write stamp, that one without its own put, the value at
   -- its read stamp
-  pub steady : (t : TxnId) (a : Addr) (stamp : ℕ) → HasInstalled s t → HasTouched s t a → (s.transactions t).read_stamp ≤ stamp → stamp < (s.transactions t).write_stamp
+  pub steady : (t : TxnId) (a : Addr) (stamp : ℕ) → HasInstalled s t → HasTouched s t a
+      → (s.transactions t).read_stamp ≤ stamp → stamp < (s.transactions t).write_stamp
       → value_at (log_of s a) a stamp ≡ value_at (log_of s a) a (s.transactions t).read_stamp
 
 -- while a transaction is open, each node has of each address what stands there at each stamp from its read stamp on
 pub record SnapshotsKept (s : State) : Type 0 where
-  pub kept : (t : TxnId) (n : ℕ) (a : Addr) (stamp : ℕ) → (s.transactions t).is_open ≡ true → n < s.nodes → (s.transactions t).read_stamp ≤ stamp
+  pub kept : (t : TxnId) (n : ℕ) (a : Addr) (stamp : ℕ) → (s.transactions t).is_open ≡ true → n < s.nodes
+      → (s.transactions t).read_stamp ≤ stamp
       → stamped_bytes (found_at stamp (versions_at (node_at s n) a)) ≡ value_at (s.logs n) a stamp

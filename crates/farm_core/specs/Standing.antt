@@ -1,5 +1,5 @@
 -- Which states of the machine the executable core stands for.
-use Rattle.std.specs.Prelude.{◌≡◌, ℕ, zero, suc, ◌%◌, ◌<◌, ◌≤◌, Bool, true, false, not, ◌&&◌, ◌||◌, List, [], ◌∷◌, length, Result, Ok, Err}
+use Rattle.std.specs.Prelude.{◌≡◌, ℕ, ◌%◌, ◌<◌, ◌≤◌, Bool, true, false, not, ◌&&◌, ◌||◌, List, [], ◌∷◌, length, map, slice_index_or, Result, Ok, Err}
 use Rattle.std.specs.List.{list_any}
 use Rattle.a1_base.specs.declared.limits.TheConstants.{NODE_LIMIT}
 use Rattle.a1_base.specs.declared.Memory.{Memory}
@@ -9,17 +9,17 @@ use Rattle.object_region.specs.Occupancy.{same_addr}
 use Rattle.farm_node.specs.declared.node.Node.{Node}
 use Rattle.farm_node.specs.declared.entry.Entry.{Entry}
 use Rattle.farm_node.specs.declared.entry.CheckFault.{CheckFault}
-use Rattle.farm_node.specs.declared.entry.CheckFault.TheVariants.{Held, Changed}
+use Rattle.farm_node.specs.declared.entry.CheckFault.TheVariants as check_fault
 use Rattle.farm_node.specs.declared.faults.ReadFault.{ReadFault}
-use Rattle.farm_node.specs.declared.faults.ReadFault.TheVariants.{Held as ReadHeld, Memory as NoReadMemory}
+use Rattle.farm_node.specs.declared.faults.ReadFault.TheVariants as reading_fault
 use Rattle.farm_node.specs.declared.faults.LockFault.{LockFault}
-use Rattle.farm_node.specs.declared.faults.LockFault.TheVariants.{Held as LockHeld, Changed as LockChanged, Memory as NoLockMemory}
+use Rattle.farm_node.specs.declared.faults.LockFault.TheVariants as locking_fault
 use Rattle.farm_node.specs.Cell.{same_txn}
 use Rattle.farm_node.specs.NodeState.{NodeState, replay, nowhere}
 use Rattle.farm_node.specs.State.{holds_there, may_lock}
 use Rattle.farm_node.specs.Node.{plain_of}
 use Rattle.farm_core.specs.declared.event.Event.{Event}
-use Rattle.farm_core.specs.declared.event.Event.TheVariants.{Read, Alloc, Lock, Draw, Check, Put, Unlock}
+use Rattle.farm_core.specs.declared.event.Event.TheVariants as event
 use Rattle.farm_core.specs.declared.event.Answer.{Answer}
 use Rattle.farm_core.specs.declared.active.Phase.{Phase}
 use Rattle.farm_core.specs.declared.active.Phase.TheVariants as phase
@@ -29,15 +29,15 @@ use Rattle.farm_core.specs.ReadSets.{read_set, all_checked}
 
 -- some run leads there
 abbrev pub Reached : State → Type 0
-Reached s = (0 < s.nodes) × (s.nodes ≤ NODE_LIMIT) × ((events : List Event) × (answers : List Answer) × Runs (fresh s.nodes) events answers s)
+Reached s =
+    (0 < s.nodes) × (s.nodes ≤ NODE_LIMIT)
+    × ((events : List Event) × (answers : List Answer) × Runs (fresh s.nodes) events answers s)
 
 -- nodes
 
 -- the plain state of each node
 abbrev pub plains : List Node → ℕ → NodeState
-plains [] n = nowhere
-plains (x ∷ xs) zero = plain_of x
-plains (x ∷ xs) (suc n) = plains xs n
+plains nodes n = slice_index_or (map plain_of nodes) n nowhere
 
 -- each node stands for its list
 pub record NodesStand (nodes : List Node) (count : ℕ) (logs : ℕ → List Entry) : Type 0 where
@@ -100,7 +100,9 @@ CanAct x nodes t e = (s : State) × Reached s × At x nodes t s × Meets s e
 
 -- in each such state the answer is due, and the transaction and the nodes stand for the state afterwards
 abbrev pub ActsOn : Active → List Node → TxnId → Event → Result Answer Memory → Active → List Node → Type 0
-ActsOn x nodes t e result y later_nodes = (s : State) → Reached s → At x nodes t s → Meets s e → Acted t s e result (λ later. At y later_nodes t later × (later.clock ≡ s.clock))
+ActsOn x nodes t e result y later_nodes =
+    (s : State) → Reached s → At x nodes t s → Meets s e
+    → Acted t s e result (λ later. At y later_nodes t later × (later.clock ≡ s.clock))
 
 -- an event was answered, or nothing came to pass
 abbrev pub Stepped : TxnId → State → Event → Result Answer Memory → (State → Type 0) → Type 0
@@ -114,13 +116,13 @@ pub record AtClock (x : Active) (nodes : List Node) (clock : ℕ) (t : TxnId) (s
 
 -- the event is one of an open transaction, and not its end
 abbrev pub IsOf : TxnId → Event → Type 0
-IsOf t (Read u a) = u ≡ t
-IsOf t (Alloc u n bytes) = u ≡ t
-IsOf t (Lock u a new) = u ≡ t
-IsOf t (Draw u) = u ≡ t
-IsOf t (Check u a) = u ≡ t
-IsOf t (Put u a) = u ≡ t
-IsOf t (Unlock u a) = u ≡ t
+IsOf t (event.Read u a) = u ≡ t
+IsOf t (event.Alloc u n bytes) = u ≡ t
+IsOf t (event.Lock u a new) = u ≡ t
+IsOf t (event.Draw u) = u ≡ t
+IsOf t (event.Check u a) = u ≡ t
+IsOf t (event.Put u a) = u ≡ t
+IsOf t (event.Unlock u a) = u ≡ t
 IsOf t e = ⊥
 
 -- which events have their conditions
@@ -148,25 +150,27 @@ is_none [] = true
 is_none (a ∷ more) = false
 
 abbrev pub meets_in : Active → List Node → TxnId → Event → Bool
-meets_in x nodes t (Read u a) = is_reading x.phase && not (holds_at nodes t a)
-meets_in x nodes t (Alloc u n bytes) = is_reading x.phase
-meets_in x nodes t (Lock u a new) = is_reading x.phase && may_lock_at nodes t a x.read_stamp
-meets_in x nodes t (Draw u) = is_reading x.phase && not (is_none x.locked.items)
-meets_in x nodes t (Check u a) = is_drawn x.phase && ((read_set x.reads).read a && not (holds_at nodes t a))
-meets_in x nodes t (Put u a) = (is_drawn x.phase || is_installing x.phase) && (all_checked x.reads && holds_at nodes t a)
-meets_in x nodes t (Unlock u a) = not (is_installing x.phase) && holds_at nodes t a
+meets_in x nodes t (event.Read u a) = is_reading x.phase && not (holds_at nodes t a)
+meets_in x nodes t (event.Alloc u n bytes) = is_reading x.phase
+meets_in x nodes t (event.Lock u a new) = is_reading x.phase && may_lock_at nodes t a x.read_stamp
+meets_in x nodes t (event.Draw u) = is_reading x.phase && not (is_none x.locked.items)
+meets_in x nodes t (event.Check u a) = is_drawn x.phase && ((read_set x.reads).read a && not (holds_at nodes t a))
+meets_in x nodes t (event.Put u a) =
+    (is_drawn x.phase || is_installing x.phase) && (all_checked x.reads && holds_at nodes t a)
+meets_in x nodes t (event.Unlock u a) = not (is_installing x.phase) && holds_at nodes t a
 meets_in x nodes t e = false
 
 -- what a fault is, but for want of memory
 
 abbrev pub read_fault : ReadFault → Result TxnId Memory
-read_fault (ReadHeld by) = Ok by
-read_fault NoReadMemory = Err (record {})
+read_fault (reading_fault.Held by) = Ok by
+read_fault reading_fault.Memory = Err (record {})
 
 abbrev pub lock_fault : LockFault → Result CheckFault Memory
-lock_fault (LockHeld by) = Ok (Held by)
-lock_fault (LockChanged seen now) = Ok (Changed seen now)
-lock_fault NoLockMemory = Err (record {})
+lock_fault (locking_fault.Held by) = Ok (check_fault.Held by)
+lock_fault (locking_fault.Changed seen now) = Ok (check_fault.Changed seen now)
+lock_fault locking_fault.Memory = Err (record {})
 
 abbrev pub CanActAt : Active → List Node → ℕ → Event → Type 0
-CanActAt x nodes clock e = (t : TxnId) × (s : State) × IsOf t e × Reached s × AtClock x nodes clock t s × Meets s e × InRange s.nodes e
+CanActAt x nodes clock e =
+    (t : TxnId) × (s : State) × IsOf t e × Reached s × AtClock x nodes clock t s × Meets s e × InRange s.nodes e

@@ -69,25 +69,26 @@ impl Active {
     }
 
     // Whether an event of the transaction, but its end, has its condition.
-    fn meets(&self, nodes: &[Node], t: TxnId, event: &Event) -> bool
+    fn meets(&self, nodes: &[Node], transaction: TxnId, event: &Event) -> bool
         requires { 0 < length nodes.now }
-        ensures { result ≡ meets_in self.now nodes.now t event.now }
+        ensures { result ≡ meets_in self.now nodes.now transaction event.now }
     {
         match event {
-            Event::Read { at, .. } => self.phase.is_reading() && !holds(nodes, t, *at),
+            Event::Read { at, .. } => self.phase.is_reading() && !holds(nodes, transaction, *at),
             Event::Alloc { .. } => self.phase.is_reading(),
             Event::Lock { at, .. } => self.phase.is_reading()
-                && may_lock(nodes, t, *at, self.read_stamp),
+                && may_lock(nodes, transaction, *at, self.read_stamp),
             Event::Draw { .. } => self.phase.is_reading() && !self.locked.is_empty(),
             Event::Check { at, .. } => self.phase.is_drawn()
                 && self.reads.contains(*at)
-                && !holds(nodes, t, *at),
+                && !holds(nodes, transaction, *at),
             Event::Put { at, .. } => {
                 (self.phase.is_drawn() || self.phase.is_installing())
                     && self.reads.all_checked()
-                    && holds(nodes, t, *at)
+                    && holds(nodes, transaction, *at)
             }
-            Event::Unlock { at, .. } => !self.phase.is_installing() && holds(nodes, t, *at),
+            Event::Unlock { at, .. } => !self.phase.is_installing()
+                && holds(nodes, transaction, *at),
             _ => false,
         }
     }
@@ -99,13 +100,15 @@ impl Active {
         nodes: &mut [Node],
         clock: &mut u64,
         alloc: Global,
-        t: TxnId,
+        transaction: TxnId,
         event: &Event,
     ) -> Result<Answer, Memory>
-        requires { (s : State) × Reached s × AtClock self.old nodes.old clock.old t s × IsOf t event.now × InRange s.nodes event.now }
-        ensures { (s : State) → Reached s → AtClock self.old nodes.old clock.old t s → IsOf t event.now → Stepped t s event.now result (AtClock self.new nodes.new clock.new t) }
+        requires { (s : State) × Reached s × AtClock self.old nodes.old clock.old transaction s × IsOf transaction event.now
+            × InRange s.nodes event.now }
+        ensures { (s : State) → Reached s → AtClock self.old nodes.old clock.old transaction s → IsOf transaction event.now
+            → Stepped transaction s event.now result (AtClock self.new nodes.new clock.new transaction) }
     {
-        if self.meets(nodes, t, event) {
+        if self.meets(nodes, transaction, event) {
             self.act(nodes, clock, alloc, event)
         } else {
             Ok(Answer::No)
@@ -113,11 +116,12 @@ impl Active {
     }
 
     /// Whether the transaction holds a lock. It takes a logarithm for each lock that went since it was last asked.
-    pub fn holds_lock(&mut self, nodes: &[Node], t: TxnId) -> bool
+    pub fn holds_lock(&mut self, nodes: &[Node], transaction: TxnId) -> bool
         requires { 0 < length nodes.now }
-        ensures { (s : State) → Reached s → At self.old nodes.now t s → (IsTrue result ↔ HoldsLock s t) × At self.new nodes.now t s }
+        ensures { (s : State) → Reached s → At self.old nodes.now transaction s → (IsTrue result ↔ HoldsLock s transaction)
+            × At self.new nodes.now transaction s }
     {
-        any_held(&mut self.locked, nodes, t)
+        any_held(&mut self.locked, nodes, transaction)
     }
 
     // Answers an event that has its condition.
@@ -129,7 +133,8 @@ impl Active {
         event: &Event,
     ) -> Result<Answer, Memory>
         requires { CanActAt self.old nodes.old clock.old event.now }
-        ensures { (t : TxnId) (s : State) → IsOf t event.now → Reached s → AtClock self.old nodes.old clock.old t s → Meets s event.now → Acted t s event.now result (AtClock self.new nodes.new clock.new t) }
+        ensures { (t : TxnId) (s : State) → IsOf t event.now → Reached s → AtClock self.old nodes.old clock.old t s
+            → Meets s event.now → Acted t s event.now result (AtClock self.new nodes.new clock.new t) }
     {
         match event {
             Event::Read { t, at } => self.read(nodes, alloc, *t, *at),
@@ -148,15 +153,15 @@ impl Active {
         &mut self,
         nodes: &mut [Node],
         alloc: Global,
-        t: TxnId,
+        transaction: TxnId,
         at: Addr,
     ) -> Result<Answer, Memory>
-        requires { CanAct self.old nodes.old t (event.Read t at) }
-        ensures { ActsOn self.old nodes.old t (event.Read t at) result self.new nodes.new }
+        requires { CanAct self.old nodes.old transaction (event.Read transaction at) }
+        ensures { ActsOn self.old nodes.old transaction (event.Read transaction at) result self.new nodes.new }
     {
         let new = self.reads.insert(at)?;
         let node = home(at, nodes.len());
-        match nodes[node].read(alloc, t.actor, at, self.read_stamp) {
+        match nodes[node].read(alloc, transaction.actor, at, self.read_stamp) {
             Ok(found) => Ok(found_answer(found)),
             Err(fault) => {
                 self.reads.undo_insert(at, new);
@@ -173,17 +178,17 @@ impl Active {
         &mut self,
         nodes: &mut [Node],
         alloc: Global,
-        t: TxnId,
+        transaction: TxnId,
         node: u32,
         bytes: &Bin,
     ) -> Result<Answer, Memory>
-        requires can { CanAct self.old nodes.old t (event.Alloc t node bytes.now) }
+        requires can { CanAct self.old nodes.old transaction (event.Alloc transaction node bytes.now) }
         requires node { node < length nodes.old }
-        ensures { ActsOn self.old nodes.old t (event.Alloc t node bytes.now) result self.new nodes.new }
+        ensures { ActsOn self.old nodes.old transaction (event.Alloc transaction node bytes.now) result self.new nodes.new }
     {
         let bytes = Bin::from_slice(alloc, bytes.as_slice())?;
         self.locked.reserve(1)?;
-        match nodes[node as usize].alloc(alloc, t, self.read_stamp, bytes) {
+        match nodes[node as usize].alloc(alloc, transaction, self.read_stamp, bytes) {
             Ok(placed) => {
                 self.take(placed.at);
                 Ok(Answer::Placed {
@@ -204,17 +209,17 @@ impl Active {
         &mut self,
         nodes: &mut [Node],
         alloc: Global,
-        t: TxnId,
+        transaction: TxnId,
         at: Addr,
         new: &Option<Bin>,
     ) -> Result<Answer, Memory>
-        requires { CanAct self.old nodes.old t (event.Lock t at new.now) }
-        ensures { ActsOn self.old nodes.old t (event.Lock t at new.now) result self.new nodes.new }
+        requires { CanAct self.old nodes.old transaction (event.Lock transaction at new.now) }
+        ensures { ActsOn self.old nodes.old transaction (event.Lock transaction at new.now) result self.new nodes.new }
     {
         let new = copied(alloc, new)?;
         self.locked.reserve(1)?;
         let node = home(at, nodes.len());
-        match nodes[node].lock(t, at, self.read_stamp, new) {
+        match nodes[node].lock(transaction, at, self.read_stamp, new) {
             Ok(locked) => {
                 self.take(at);
                 Ok(Answer::Locked {
@@ -235,7 +240,8 @@ impl Active {
     // It has the lock of an address.
     fn take(&mut self, at: Addr)
         requires { vec_len self.old.locked < vec_capacity self.old.locked }
-        ensures same { (self.new.phase ≡ self.old.phase) × (self.new.read_stamp ≡ self.old.read_stamp) × (self.new.write_stamp ≡ self.old.write_stamp) }
+        ensures same { (self.new.phase ≡ self.old.phase) × (self.new.read_stamp ≡ self.old.read_stamp)
+            × (self.new.write_stamp ≡ self.old.write_stamp) }
         ensures reads { read_set self.new.reads ≡ checked at (read_set self.old.reads) }
         ensures locked { self.new.locked.items ≡ self.old.locked.items ++ at ∷ [] }
     {
@@ -244,9 +250,14 @@ impl Active {
     }
 
     // Draws its write stamp.
-    fn draw(&mut self, clock: &mut u64, t: TxnId) -> Answer
-        requires { (nodes : List Node) × (s : State) × Reached s × AtClock self.old nodes clock.old t s × Meets s (event.Draw t) }
-        ensures { (nodes : List Node) (s : State) → Reached s → AtClock self.old nodes clock.old t s → Meets s (event.Draw t) → Acted t s (event.Draw t) (Ok result) (AtClock self.new nodes clock.new t) }
+    #[tactic(auto, using(crate::proofs::Acting::draw_spent, crate::proofs::Acting::clock_fits, crate::proofs::Acting::draw_stamp))]
+    fn draw(&mut self, clock: &mut u64, transaction: TxnId) -> Answer
+        requires { (nodes : List Node) × (s : State) × Reached s × AtClock self.old nodes clock.old transaction s
+            × Meets s (event.Draw transaction) }
+        ensures { (nodes : List Node) (s : State) → Reached s → AtClock self.old nodes clock.old transaction s
+            → Meets s (event.Draw transaction)
+            → Acted transaction s (event.Draw transaction) (Ok result)
+            (AtClock self.new nodes clock.new transaction) }
     {
         if *clock == LAST_STAMP {
             self.phase = Phase::Refused;
@@ -259,12 +270,12 @@ impl Active {
     }
 
     // Asks whether what it read still stands.
-    fn check(&mut self, nodes: &mut [Node], t: TxnId, at: Addr) -> Answer
-        requires { CanAct self.old nodes.old t (event.Check t at) }
-        ensures { ActsOn self.old nodes.old t (event.Check t at) (Ok result) self.new nodes.new }
+    fn check(&mut self, nodes: &mut [Node], transaction: TxnId, at: Addr) -> Answer
+        requires { CanAct self.old nodes.old transaction (event.Check transaction at) }
+        ensures { ActsOn self.old nodes.old transaction (event.Check transaction at) (Ok result) self.new nodes.new }
     {
         let node = home(at, nodes.len());
-        match nodes[node].check(t, at, self.read_stamp, self.write_stamp) {
+        match nodes[node].check(transaction, at, self.read_stamp, self.write_stamp) {
             Ok(()) => {
                 self.reads.check(at);
                 Answer::Same
@@ -277,23 +288,23 @@ impl Active {
     }
 
     // Installs what waits under its lock.
-    fn put(&mut self, nodes: &mut [Node], t: TxnId, at: Addr) -> Answer
-        requires { CanAct self.old nodes.old t (event.Put t at) }
-        ensures { ActsOn self.old nodes.old t (event.Put t at) (Ok result) self.new nodes.new }
+    fn put(&mut self, nodes: &mut [Node], transaction: TxnId, at: Addr) -> Answer
+        requires { CanAct self.old nodes.old transaction (event.Put transaction at) }
+        ensures { ActsOn self.old nodes.old transaction (event.Put transaction at) (Ok result) self.new nodes.new }
     {
         let node = home(at, nodes.len());
-        nodes[node].put(t, at, self.write_stamp);
+        nodes[node].put(transaction, at, self.write_stamp);
         self.phase = Phase::Installing;
         Answer::Put
     }
 
     // Gives its lock up.
-    fn unlock(&mut self, nodes: &mut [Node], t: TxnId, at: Addr) -> Answer
-        requires { CanAct self.old nodes.old t (event.Unlock t at) }
-        ensures { ActsOn self.old nodes.old t (event.Unlock t at) (Ok result) self.new nodes.new }
+    fn unlock(&mut self, nodes: &mut [Node], transaction: TxnId, at: Addr) -> Answer
+        requires { CanAct self.old nodes.old transaction (event.Unlock transaction at) }
+        ensures { ActsOn self.old nodes.old transaction (event.Unlock transaction at) (Ok result) self.new nodes.new }
     {
         let node = home(at, nodes.len());
-        nodes[node].unlock(t, at);
+        nodes[node].unlock(transaction, at);
         self.phase = Phase::Refused;
         Answer::Unlocked
     }
@@ -361,23 +372,25 @@ pub fn home(at: Addr, nodes: usize) -> usize
 }
 
 // Whether the transaction has the lock of an address.
-fn holds(nodes: &[Node], t: TxnId, at: Addr) -> bool
+#[tactic(auto, using(crate::proofs::NodeLists::fetched))]
+fn holds(nodes: &[Node], transaction: TxnId, at: Addr) -> bool
     requires { 0 < length nodes.now }
-    ensures { result ≡ holds_at nodes.now t at }
+    ensures { result ≡ holds_at nodes.now transaction at }
 {
-    nodes[home(at, nodes.len())].holds(t, at)
+    nodes[home(at, nodes.len())].holds(transaction, at)
 }
 
 // Whether the transaction holds one of the addresses. Those at the end that it does not hold go.
-fn any_held(locked: &mut Vec<Addr>, nodes: &[Node], t: TxnId) -> bool
+fn any_held(locked: &mut Vec<Addr>, nodes: &[Node], transaction: TxnId) -> bool
     requires { 0 < length nodes.now }
     ensures fewer { (a : Addr) → in_list a locked.new.items ≡ true → in_list a locked.old.items ≡ true }
-    ensures held { (a : Addr) → holds_at nodes.now t a ≡ true → in_list a locked.old.items ≡ true → in_list a locked.new.items ≡ true }
-    ensures some { IsTrue result → (a : Addr) × (holds_at nodes.now t a ≡ true) }
+    ensures held { (a : Addr) → holds_at nodes.now transaction a ≡ true → in_list a locked.old.items ≡ true
+        → in_list a locked.new.items ≡ true }
+    ensures some { IsTrue result → (a : Addr) × (holds_at nodes.now transaction a ≡ true) }
     ensures none { result ≡ false → locked.new.items ≡ [] }
 {
     while let Some(at) = locked.last() {
-        if holds(nodes, t, *at) {
+        if holds(nodes, transaction, *at) {
             return true;
         }
         locked.pop();
@@ -385,10 +398,11 @@ fn any_held(locked: &mut Vec<Addr>, nodes: &[Node], t: TxnId) -> bool
     false
 }
 
-// Whether the transaction, of the read stamp `r`, may ask for the lock of an address.
-fn may_lock(nodes: &[Node], t: TxnId, at: Addr, r: u64) -> bool
+// Whether the transaction, of this read stamp, may ask for the lock of an address.
+#[tactic(auto, using(crate::proofs::NodeLists::fetched))]
+fn may_lock(nodes: &[Node], transaction: TxnId, at: Addr, read_stamp: u64) -> bool
     requires { 0 < length nodes.now }
-    ensures { result ≡ may_lock_at nodes.now t at r }
+    ensures { result ≡ may_lock_at nodes.now transaction at read_stamp }
 {
-    nodes[home(at, nodes.len())].may_lock(t, at, r)
+    nodes[home(at, nodes.len())].may_lock(transaction, at, read_stamp)
 }

@@ -1,7 +1,7 @@
 //! The farm: its nodes, its clock and its transactions.
 ghost use Rattle.std.specs.Prelude.{◌≡◌, ◌+◌, ◌<◌, ◌≤◌, ℕ, [], max, take, None, Ok, IfOk, OnOk, All, length, vec_capacity};
 ghost use Rattle.a1_base.specs.declared.limits.TheConstants.{NODE_LIMIT};
-ghost use Rattle.farm_node.specs.declared.entry.Entry.TheVariants.{Open as OpenEntry, Shut as ShutEntry};
+ghost use Rattle.farm_node.specs.declared.entry.Entry.TheVariants as entry;
 ghost use Rattle.a1_base.specs.Stamps.{IsStamp};
 ghost use Rattle.farm_core.specs.declared.event.Event.TheVariants as event;
 ghost use Rattle.farm_core.specs.Machine.{State, InRange, Meets, IsActor, IsAddr, IsObject, fresh};
@@ -32,24 +32,26 @@ pub struct Farm {
 }
 
 impl Slot {
-    // Answers an event of a transaction, but its end. `Memory` comes for want of memory alone, and then nothing has come
-    // to pass.
+    // Answers an event of a transaction, but its end. `Memory` comes for want of memory alone, and then nothing has
+    // come to pass.
     fn advance(
         &mut self,
         nodes: &mut [Node],
         clock: &mut u64,
         alloc: Global,
-        t: TxnId,
+        transaction: TxnId,
         event: &Event,
     ) -> Result<Answer, Memory>
-        requires { (s : State) × Reached s × SlotAt self.old nodes.old clock.old t s × IsOf t event.now × InRange s.nodes event.now }
-        ensures { (s : State) → Reached s → SlotAt self.old nodes.old clock.old t s → IsOf t event.now → Stepped t s event.now result (SlotAt self.new nodes.new clock.new t) }
+        requires { (s : State) × Reached s × SlotAt self.old nodes.old clock.old transaction s × IsOf transaction event.now
+            × InRange s.nodes event.now }
+        ensures { (s : State) → Reached s → SlotAt self.old nodes.old clock.old transaction s → IsOf transaction event.now
+            → Stepped transaction s event.now result (SlotAt self.new nodes.new clock.new transaction) }
     {
-        if self.begins != t.number {
+        if self.begins != transaction.number {
             return Ok(Answer::No);
         }
         match &mut self.open {
-            Some(active) => active.advance(nodes, clock, alloc, t, event),
+            Some(active) => active.advance(nodes, clock, alloc, transaction, event),
             None => Ok(Answer::No),
         }
     }
@@ -62,17 +64,18 @@ impl Slot {
     }
 
     // Ends the transaction, if it is open and holds no lock, and says whether.
-    fn shut(&mut self, nodes: &[Node], t: TxnId) -> bool
+    #[tactic(auto, using(crate::proofs::Ending::shut_other, crate::proofs::Ending::shut_held, crate::proofs::Ending::shut_none, crate::proofs::Ending::shut_free))]
+    fn shut(&mut self, nodes: &[Node], transaction: TxnId) -> bool
         requires { 0 < length nodes.now }
-        ensures { Shuts self.old nodes.now t result self.new }
+        ensures { Shuts self.old nodes.now transaction result self.new }
     {
-        if self.begins != t.number {
+        if self.begins != transaction.number {
             return false;
         }
         let Some(active) = &mut self.open else {
             return false;
         };
-        if active.holds_lock(nodes, t) {
+        if active.holds_lock(nodes, transaction) {
             return false;
         }
         self.open = None;
@@ -95,8 +98,8 @@ impl Farm {
         })
     }
 
-    /// Answers one event after another, behind no answer yet, until memory is wanting. `Memory` comes for want of memory
-    /// alone; then the event behind the last answer has not come to pass.
+    /// Answers one event after another, behind no answer yet, until memory is wanting. `Memory` comes for want of
+    /// memory alone; then the event behind the last answer has not come to pass.
     pub fn run(
         &mut self,
         alloc: Global,
@@ -107,7 +110,8 @@ impl Farm {
         requires range { All (InRange (length self.old.nodes.items)) events.now }
         requires empty { answers.old.items ≡ [] }
         requires room { length events.now ≤ vec_capacity answers.old }
-        ensures ran { (s : State) → Stands self.old s → RunsTo s (take (length answers.new.items) events.now) answers.new.items (Stands self.new) }
+        ensures ran { (s : State) → Stands self.old s
+            → RunsTo s (take (length answers.new.items) events.now) answers.new.items (Stands self.new) }
         ensures all { OnOk result (length answers.new.items ≡ length events.now) }
         ensures some { length answers.new.items ≤ length events.now }
         ensures nodes { length self.new.nodes.items ≡ length self.old.nodes.items }
@@ -142,48 +146,59 @@ impl Farm {
     }
 
     // Answers an event of an open transaction, but its end.
-    fn advance(&mut self, alloc: Global, t: TxnId, event: &Event) -> Result<Answer, Memory>
-        requires known { (s : State) × Stands self.old s × IsOf t event.now }
+    fn advance(
+        &mut self,
+        alloc: Global,
+        transaction: TxnId,
+        event: &Event,
+    ) -> Result<Answer, Memory>
+        requires known { (s : State) × Stands self.old s × IsOf transaction event.now }
         requires range { InRange (length self.old.nodes.items) event.now }
         ensures steps { (s : State) → Stands self.old s → StepsTo s event.now result (Stands self.new) }
         ensures nodes { length self.new.nodes.items ≡ length self.old.nodes.items }
     {
-        self.slots[t.actor as usize].advance(&mut self.nodes, &mut self.clock, alloc, t, event)
+        self.slots[transaction.actor as usize].advance(
+            &mut self.nodes,
+            &mut self.clock,
+            alloc,
+            transaction,
+            event,
+        )
     }
 
     // A transaction takes its snapshot.
-    fn begin(&mut self, alloc: Global, t: TxnId) -> Answer
-        requires actor { IsActor t }
+    fn begin(&mut self, alloc: Global, transaction: TxnId) -> Answer
+        requires actor { IsActor transaction }
         requires known { (s : State) × Stands self.old s }
-        ensures steps { (s : State) → Stands self.old s → StepsTo s (event.Begin t) (Ok result) (Stands self.new) }
+        ensures steps { (s : State) → Stands self.old s → StepsTo s (event.Begin transaction) (Ok result) (Stands self.new) }
         ensures nodes { length self.new.nodes.items ≡ length self.old.nodes.items }
     {
-        let actor = t.actor as usize;
-        if !self.slots[actor].may_begin(t.number) {
+        let actor = transaction.actor as usize;
+        if !self.slots[actor].may_begin(transaction.number) {
             return Answer::No;
         }
         let active = Active::begun(alloc, self.clock);
         self.slots[actor] = Slot {
-            begins: t.number,
+            begins: transaction.number,
             open: Some(active),
         };
-        open_all(&mut self.nodes, t.actor, self.clock);
+        open_all(&mut self.nodes, transaction.actor, self.clock);
         self.loading = false;
         Answer::At { stamp: self.clock }
     }
 
     // A transaction ends.
-    fn shut(&mut self, t: TxnId) -> Answer
-        requires actor { IsActor t }
+    fn shut(&mut self, transaction: TxnId) -> Answer
+        requires actor { IsActor transaction }
         requires known { (s : State) × Stands self.old s }
-        ensures steps { (s : State) → Stands self.old s → StepsTo s (event.Shut t) (Ok result) (Stands self.new) }
+        ensures steps { (s : State) → Stands self.old s → StepsTo s (event.Shut transaction) (Ok result) (Stands self.new) }
         ensures nodes { length self.new.nodes.items ≡ length self.old.nodes.items }
     {
-        let actor = t.actor as usize;
-        if !self.slots[actor].shut(&self.nodes, t) {
+        let actor = transaction.actor as usize;
+        if !self.slots[actor].shut(&self.nodes, transaction) {
             return Answer::No;
         }
-        shut_all(&mut self.nodes, t.actor);
+        shut_all(&mut self.nodes, transaction.actor);
         Answer::Shut
     }
 
@@ -207,7 +222,8 @@ impl Farm {
     fn load(&mut self, alloc: Global, at: Addr, bytes: &Bin) -> Result<Answer, Memory>
         requires addr { IsAddr (length self.old.nodes.items) at }
         requires known { (s : State) × Stands self.old s }
-        ensures steps { (s : State) → Stands self.old s → IsObject bytes.now → StepsTo s (event.Load at bytes.now) result (Stands self.new) }
+        ensures steps { (s : State) → Stands self.old s → IsObject bytes.now
+            → StepsTo s (event.Load at bytes.now) result (Stands self.new) }
         ensures nodes { length self.new.nodes.items ≡ length self.old.nodes.items }
     {
         if !self.loading {
@@ -255,8 +271,9 @@ fn new_slots(alloc: Global) -> Result<Vec<Slot>, Memory>
 // Pins each node for an actor at the stamp, which is at least each floor.
 fn open_all(nodes: &mut [Node], actor: u32, stamp: u64)
     requires actor { (0 < actor) × IsStamp stamp }
-    requires free { (n : ℕ) → n < length nodes.old → (actor ≤ (plains nodes.old n).actors) × ((plains nodes.old n).pins actor ≡ None) }
-    ensures { AddsEach (λ p. OpenEntry actor stamp (max stamp p.floor)) nodes.old nodes.new }
+    requires free { (n : ℕ) → n < length nodes.old → (actor ≤ (plains nodes.old n).actors)
+        × ((plains nodes.old n).pins actor ≡ None) }
+    ensures { AddsEach (λ p. entry.Open actor stamp (max stamp p.floor)) nodes.old nodes.new }
 {
     for node in nodes.iter_mut() {
         node.open(actor, stamp);
@@ -266,7 +283,7 @@ fn open_all(nodes: &mut [Node], actor: u32, stamp: u64)
 // Takes an actor's pin away from each node.
 fn shut_all(nodes: &mut [Node], actor: u32)
     requires { (n : ℕ) → n < length nodes.old → (x : ℕ) × ((plains nodes.old n).pins actor ≡ Some x) }
-    ensures { AddsEach (λ p. ShutEntry actor) nodes.old nodes.new }
+    ensures { AddsEach (λ p. entry.Shut actor) nodes.old nodes.new }
 {
     for node in nodes.iter_mut() {
         node.shut(actor);

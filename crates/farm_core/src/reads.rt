@@ -35,6 +35,7 @@ impl ReadMarks {
     }
 
     /// Whether each address that was read was locked or found the same.
+    #[tactic(auto, using(crate::proofs::Sets::empty_iff))]
     pub fn all_checked(&self) -> bool
         ensures { result ≡ all_checked self.now }
     {

@@ -50,7 +50,8 @@ impl Core {
     /// events, from the first, were answered, and nothing more has come to pass.
     pub fn run(&mut self, alloc: Global, events: &[Event]) -> Result<Vec<Answer>, Memory>
         requires { All (InRange (node_count self.old)) events.now }
-        ensures ok { (s : State) → CoreStands self.old s → IfOk result (λ answers. (later : State) × Runs s events.now answers.items later × CoreStands self.new later) }
+        ensures ok { (s : State) → CoreStands self.old s → IfOk result (λ answers.
+            (later : State) × Runs s events.now answers.items later × CoreStands self.new later) }
         ensures done { OnOk result (self.new.done ≡ counted_on self.old.done (length events.now)) }
         ensures err { (s : State) → CoreStands self.old s → OnErr result (RanFront s events.now self.old self.new) }
         ensures nodes { node_count self.new ≡ node_count self.old }

@@ -1,5 +1,5 @@
 use Rattle.std.proofs.Common.{◌∙◌, ◌+◌, List, sym, subst}
-use Rattle.farm_node.specs.declared.node.Node.{Node}
+use Rattle.farm_core.proofs.Words.{Node}
 use Rattle.farm_core.proofs.Running.{NodesBegun, begun_more}
 use Rattle.farm_core.proofs.farm.new_nodes.Goals as goal
 

@@ -1,5 +1,5 @@
 use Rattle.std.proofs.Common.{◌≡◌, ◌+◌, vec_capacity}
-use Rattle.a1_base.specs.declared.limits.TheConstants.{ACTOR_LIMIT}
+use Rattle.farm_core.proofs.Words.{ACTOR_LIMIT}
 use Rattle.farm_core.proofs.Running.{NewTo}
 use Rattle.farm_core.proofs.farm.new_slots.Given as goal
 

@@ -1,11 +1,7 @@
-use Rattle.std.proofs.Common.{◌≡◌, ◌<◌, ◌≤◌, ℕ, max}
-use Rattle.farm_node.specs.declared.entry.Entry.TheVariants.{Open}
-use Rattle.farm_node.specs.NodeState.{Adds}
-use Rattle.farm_core.specs.Standing.{plains}
+use Rattle.std.proofs.Common.{max}
+use Rattle.farm_node.specs.declared.entry.Entry.TheVariants as entry
+use Rattle.farm_core.proofs.EachNode.{EachDone}
 use Rattle.farm_core.proofs.farm.open_all.Given as goal
 
 abbrev pub invariant-loop-node : goal.invariant-loop-node
-invariant-loop-node l = record {
-  done : (n : ℕ) → n < l.node-index → Adds (plains l.fn.nodes n) (Open l.actor l.stamp (max l.stamp (plains l.fn.nodes n).floor)) (plains l.nodes n);
-  rest : (n : ℕ) → l.node-index ≤ n → plains l.nodes n ≡ plains l.fn.nodes n;
-}
+invariant-loop-node l = EachDone (λ p. entry.Open l.actor l.stamp (max l.stamp p.floor)) l.fn.nodes l.node-index l.nodes

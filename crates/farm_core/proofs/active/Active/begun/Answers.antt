@@ -1,7 +1,5 @@
 use Rattle.std.proofs.Common.{◌≡◌, ◌∙◌, ap, refl, sym, false, true, List, []}
-use Rattle.a1_base.specs.declared.place.Addr.{Addr}
-use Rattle.farm_core.specs.ReadSet.{ReadSet}
-use Rattle.farm_core.specs.Standing.{in_list}
+use Rattle.farm_core.proofs.Words.{Addr, ReadSet, in_list}
 use Rattle.farm_core.proofs.active.Active.begun.Goals as goal
 
 none_locked : (a : Addr) (locked : List Addr) → locked ≡ [] → in_list a locked ≡ true → false ≡ true

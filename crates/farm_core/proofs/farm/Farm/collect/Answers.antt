@@ -1,10 +1,11 @@
 use Rattle.std.proofs.Common.{◌<◌, refl, arith}
-use Rattle.a1_base.specs.declared.limits.TheConstants.{COLLECTOR_ACTOR}
-use Rattle.farm_core.proofs.Collecting.{stamp_low, collect_stands}
+use Rattle.farm_core.proofs.Words.{COLLECTOR_ACTOR}
+use Rattle.farm_core.proofs.Collecting.{collect_stands}
+use Rattle.farm_core.proofs.Farming.{clock_low}
 use Rattle.farm_core.proofs.farm.Farm.collect.Goals as goal
 
 pub collect-removed-requires : goal.collect-removed-requires
-collect-removed-requires c = let known = c.requires.known in record { stamp = stamp_low c.args.self.now known.0 known.1 }
+collect-removed-requires c = let known = c.requires.known in record { stamp = clock_low c.args.self.now known.0 known.1 }
 
 pub returns-clause-steps : goal.returns-clause-steps
 returns-clause-steps c = λ s st.

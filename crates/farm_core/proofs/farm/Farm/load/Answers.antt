@@ -1,5 +1,5 @@
 use Rattle.std.proofs.Common.{ℕ, ◌%◌, ◌∙◌, is_some, ap, refl, sym}
-use Rattle.farm_node.specs.NodeState.{NodeState}
+use Rattle.farm_core.proofs.Words.{NodeState}
 use Rattle.farm_core.proofs.Loading.{here, load_closed, load_taken, load_stamp, load_place, load_stands, load_failed}
 use Rattle.farm_core.proofs.farm.Farm.load.Goals as goal
 

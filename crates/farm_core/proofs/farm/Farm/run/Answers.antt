@@ -1,8 +1,6 @@
 use Rattle.std.proofs.Common.{◌∙◌, ◌<◌, ◌≤◌, ◌+◌, ◌∷◌, [], ℕ, List, length, take, subst, sym, ap, length-append, arith}
-use Rattle.farm_core.specs.declared.event.Answer.{Answer}
-use Rattle.farm_core.specs.Machine.{InRange}
-use Rattle.farm_core.specs.Farms.{Stands, RunsTo}
-use Rattle.farm_core.proofs.Running.{ran_more, ran_still, all_ran}
+use Rattle.farm_core.proofs.Words.{Answer, InRange, Stands, RunsTo}
+use Rattle.farm_core.proofs.Running.{ran_more, ran_still}
 use Rattle.farm_core.proofs.farm.Farm.run.Goals as goal
 
 pub returns-in_err-answer-clause-ran : goal.returns-in_err-answer-clause-ran
@@ -25,4 +23,4 @@ loop-event-preserved c =
 
 pub returns-clause-ran : goal.returns-clause-ran
 returns-clause-ran c =
-    all_ran c.args.self.now c.loop-event.self c.args.events.now c.loop-event.event-index c.loop-event.answers.items c.loop-event.invariant.count c.loop-event.invariant.ran
+    ran_still c.args.self.now c.loop-event.self c.loop-event.self c.args.events.now c.loop-event.event-index c.loop-event.answers.items c.loop-event.invariant.count c.loop-event.invariant.ran (λ s st. st)

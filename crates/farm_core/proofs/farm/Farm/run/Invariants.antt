@@ -1,6 +1,5 @@
 use Rattle.std.proofs.Common.{◌≡◌, ◌≤◌, length, take, vec_capacity}
-use Rattle.farm_core.specs.Machine.{State}
-use Rattle.farm_core.specs.Farms.{Stands, RunsTo}
+use Rattle.farm_core.proofs.Words.{State, Stands, RunsTo}
 use Rattle.farm_core.proofs.farm.Farm.run.Given as goal
 
 abbrev pub invariant-loop-event : goal.invariant-loop-event

@@ -1,6 +1,5 @@
 use Rattle.std.proofs.Common.{Ok, sym, subst}
-use Rattle.farm_core.specs.declared.event.Event.{Event}
-use Rattle.farm_core.specs.Farms.{Stands, StepsTo}
+use Rattle.farm_core.proofs.Words.{Event, Stands, StepsTo}
 use Rattle.farm_core.proofs.farm.Farm.step.Goals as goal
 
 pub returns-in-Begin-clause-steps : goal.returns-in-Begin-clause-steps

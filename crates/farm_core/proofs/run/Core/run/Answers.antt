@@ -1,9 +1,8 @@
 use Rattle.std.proofs.Common.{◌≡◌, [], List, length, refl, sym, subst, ap, arith}
-use Rattle.farm_core.specs.declared.event.Event.{Event}
-use Rattle.farm_core.specs.Machine.{Runs}
-use Rattle.farm_core.specs.Farms.{Stands}
+use Rattle.std.proofs.lemmas.List.{take_all}
+use Rattle.farm_core.proofs.Words.{Event, Runs, Stands}
 use Rattle.farm_core.specs.Cores.{Shown, RanFront}
-use Rattle.farm_core.proofs.Running.{take_whole, on_err}
+use Rattle.farm_core.proofs.Running.{on_err}
 use Rattle.farm_core.proofs.run.Core.run.Goals as goal
 
 pub returns-in_err-answers-clause-err : goal.returns-in_err-answers-clause-err
@@ -27,4 +26,4 @@ returns-in_err-ended-clause-err c = λ s st.
 pub returns-clause-ok : goal.returns-clause-ok
 returns-clause-ok c = λ s st.
     let ran = c.run-ended.ensures.ran s (subst (λ (v : Shown). Stands v.farm s) (sym c.self.view_is) st) in
-    (ran.0, subst (λ (es : List Event). Runs s es c.run-ended.new.answers.items ran.0) (take_whole c.args.events.now (length c.run-ended.new.answers.items) c.in_ok-ended.ensures.all) ran.1, ran.2)
+    (ran.0, subst (λ (es : List Event). Runs s es c.run-ended.new.answers.items ran.0) (take_all (length c.run-ended.new.answers.items) c.args.events.now (omega (arith, c.in_ok-ended.ensures.all))) ran.1, ran.2)
