@@ -19,7 +19,7 @@ use Rattle.farm_core.specs.declared.event.Event.TheVariants.{Load, Begin, Read, 
 use Rattle.steps_text.specs.declared.fault.LineFault.{LineFault}
 use Rattle.steps_text.specs.declared.fault.LineFault.TheVariants.{Malformed, Memory}
 use Rattle.steps_text.specs.EventText.{txn_text, addr_text, new_text, event_text, IsEvent}
-use Rattle.steps_text.specs.Reading.{Lacks, IsCut, Refuses, Parses, ParsesOrFails, IsTxn, IsPlace, verb, arguments, IsForm}
+use Rattle.steps_text.specs.Reading.{Lacks, IsCut, Refuses, Parses, ParsesOrFails, IsTxn, IsTextAddr, verb, arguments, IsForm}
 use Rattle.steps_text.proofs.WordLemmas.{one_cut, has_mark, decimal_lacks}
 
 -- ---- the first word
@@ -55,9 +55,9 @@ event_read nodes line word words (Ok e) cut h =
 event_read nodes line word words (Err Malformed) cut h = form_refused nodes line word words cut h
 event_read nodes line word words (Err Memory) cut h = tt
 
-pub or_malformed : {A : Type 0} (text_of : A → List ℕ) (IsValue : A → Type 0) (text : List ℕ) (o : Option A) → Parses text_of IsValue text o → ParsesOrFails text_of IsValue text (ok_or o Malformed)
-or_malformed text_of IsValue text (Some x) h = h
-or_malformed text_of IsValue text None h = h
+pub or_malformed : {A : Type 0} (written : A → List ℕ) (IsValue : A → Type 0) (text : List ℕ) (o : Option A) → Parses written IsValue text o → ParsesOrFails written IsValue text (ok_or o Malformed)
+or_malformed written IsValue text (Some x) h = h
+or_malformed written IsValue text None h = h
 
 -- ---- plain bytes
 
@@ -122,7 +122,7 @@ plain_hex (b ∷ bytes) =
 plain_txn : (t : TxnId) → IsTxn t → Plain (txn_text t)
 plain_txn t v = plain_joined 46 (decimal t.actor) (decimal t.number) (λ e. omega arith, omega arith) (plain_decimal t.actor (omega arith)) (plain_decimal t.number v.1)
 
-plain_addr : (nodes : ℕ) (a : Addr) → IsPlace nodes a → Plain (addr_text a)
+plain_addr : (nodes : ℕ) (a : Addr) → IsTextAddr nodes a → Plain (addr_text a)
 unfolding width
 plain_addr nodes a v =
     let small : a.offset < REGION_WIDTH = v.0.1 in
@@ -136,7 +136,7 @@ plain_new (Some bytes) = plain_hex bytes
 plain_pair : (xs ys : List ℕ) → Plain xs → Plain ys → Plain (xs ++ 32 ∷ ys)
 plain_pair xs ys h k = plain_joined 32 xs ys (λ e. omega arith, omega arith) h k
 
-plain_placed : (nodes : ℕ) (t : TxnId) (a : Addr) → IsTxn t → IsPlace nodes a → Plain (txn_text t ++ 32 ∷ addr_text a)
+plain_placed : (nodes : ℕ) (t : TxnId) (a : Addr) → IsTxn t → IsTextAddr nodes a → Plain (txn_text t ++ 32 ∷ addr_text a)
 plain_placed nodes t a h k = plain_pair (txn_text t) (addr_text a) (plain_txn t h) (plain_addr nodes a k)
 
 plain_arguments : (nodes : ℕ) (e : Event) → IsEvent nodes e → Plain (arguments e)
@@ -169,3 +169,6 @@ not_utf8 nodes line h = record { none = λ e v same. h (subst IsUtf8 same (IsUtf
 
 pub event_clean : (nodes : ℕ) (e : Event) → IsEvent nodes e → Lacks 10 (event_text e)
 event_clean nodes e v = plain_line (event_text e) (plain_event nodes e v)
+
+-- how a line is read, or is no event's
+pub ruleset event_parts = (event_uncut, event_read, not_utf8)

@@ -12,7 +12,7 @@ use Rattle.object_region.specs.Occupancy.{width}
 use Rattle.farm_core.specs.declared.event.Event.{Event}
 use Rattle.farm_core.specs.declared.event.Event.TheVariants.{Load, Read, Alloc, Lock, Check, Put, Unlock}
 use Rattle.steps_text.specs.EventText.{txn_text, addr_text, new_text}
-use Rattle.steps_text.specs.Reading.{Lacks, IsCut, Refuses, IsTxn, IsPlace, IsContent, IsNewContent, pair_text, Both, verb, arguments, IsForm}
+use Rattle.steps_text.specs.Reading.{Lacks, IsCut, Refuses, IsTxn, IsTextAddr, IsContent, IsNewContent, pair_text, Both, verb, arguments, IsForm}
 use Rattle.steps_text.proofs.WordLemmas.{decimal_lacks, lacks_append, refused_uncut, refused_front, refused_back}
 
 pub differ : (xs ys : List ℕ) → xs ≡ ys → bytes_eq xs ys ≡ false → ⊥
@@ -37,11 +37,11 @@ txn_clean t v =
     lacks_append 32 (decimal t.actor) (46 ∷ decimal t.number) (decimal_lacks 32 t.actor (λ r. omega arith) (omega arith))
     ((λ e. omega arith), decimal_lacks 32 t.number (λ r. omega arith) v.1)
 
-pub offset_small : (nodes : ℕ) (a : Addr) → IsPlace nodes a → a.offset < 2 ^ 64
+pub offset_small : (nodes : ℕ) (a : Addr) → IsTextAddr nodes a → a.offset < 2 ^ 64
 unfolding width
 offset_small nodes a v = let h : a.offset < REGION_WIDTH = v.0.1 in omega arith
 
-pub addr_clean : (nodes : ℕ) → Clean addr_text (IsPlace nodes)
+pub addr_clean : (nodes : ℕ) → Clean addr_text (IsTextAddr nodes)
 addr_clean nodes a v =
     lacks_append 32 (decimal a.region) (58 ∷ decimal a.offset) (decimal_lacks 32 a.region (λ r. omega arith) (omega arith))
     ((λ e. omega arith), decimal_lacks 32 a.offset (λ r. omega arith) (offset_small nodes a v))
@@ -51,34 +51,34 @@ node_clean nodes n v = decimal_lacks 32 n (λ r. omega arith) (omega arith)
 
 -- ---- a transaction and an address
 
-pub placed_uncut : (nodes : ℕ) (words : List ℕ) → Lacks 32 words → Refuses (pair_text txn_text addr_text) (Both IsTxn (IsPlace nodes)) words
-placed_uncut nodes words h = pair_uncut txn_text addr_text IsTxn (IsPlace nodes) words h
+pub placed_uncut : (nodes : ℕ) (words : List ℕ) → Lacks 32 words → Refuses (pair_text txn_text addr_text) (Both IsTxn (IsTextAddr nodes)) words
+placed_uncut nodes words h = pair_uncut txn_text addr_text IsTxn (IsTextAddr nodes) words h
 
-pub placed_txn : (nodes : ℕ) (words a b : List ℕ) → IsCut 32 words a b → Refuses txn_text IsTxn a → Refuses (pair_text txn_text addr_text) (Both IsTxn (IsPlace nodes)) words
-placed_txn nodes words a b cut h = pair_front txn_text addr_text IsTxn (IsPlace nodes) words a b txn_clean cut h
+pub placed_txn : (nodes : ℕ) (words a b : List ℕ) → IsCut 32 words a b → Refuses txn_text IsTxn a → Refuses (pair_text txn_text addr_text) (Both IsTxn (IsTextAddr nodes)) words
+placed_txn nodes words a b cut h = pair_front txn_text addr_text IsTxn (IsTextAddr nodes) words a b txn_clean cut h
 
-pub placed_place : (nodes : ℕ) (words a b : List ℕ) → IsCut 32 words a b → Refuses addr_text (IsPlace nodes) b → Refuses (pair_text txn_text addr_text) (Both IsTxn (IsPlace nodes)) words
-placed_place nodes words a b cut h = pair_back txn_text addr_text IsTxn (IsPlace nodes) words a b txn_clean cut h
+pub placed_place : (nodes : ℕ) (words a b : List ℕ) → IsCut 32 words a b → Refuses addr_text (IsTextAddr nodes) b → Refuses (pair_text txn_text addr_text) (Both IsTxn (IsTextAddr nodes)) words
+placed_place nodes words a b cut h = pair_back txn_text addr_text IsTxn (IsTextAddr nodes) words a b txn_clean cut h
 
 -- ---- forms
 
 -- where the events of a form are values of another type
-form : {A : Type 0} (nodes : ℕ) (word : List ℕ) (text_of : A → List ℕ) (IsValue : A → Type 0) (words : List ℕ)
-    → ((e : Event) → IsForm nodes word e → (x : A) × (IsValue x × (text_of x ≡ arguments e))) → Refuses text_of IsValue words → Refuses arguments (IsForm nodes word) words
-form nodes word text_of IsValue words parts h = record { none = λ e f same. let x = parts e f in h.none x.0 x.1.0 (x.1.1 ∙ same) }
+form : {A : Type 0} (nodes : ℕ) (word : List ℕ) (written : A → List ℕ) (IsValue : A → Type 0) (words : List ℕ)
+    → ((e : Event) → IsForm nodes word e → (x : A) × (IsValue x × (written x ≡ arguments e))) → Refuses written IsValue words → Refuses arguments (IsForm nodes word) words
+form nodes word written IsValue words parts h = record { none = λ e f same. let x = parts e f in h.none x.0 x.1.0 (x.1.1 ∙ same) }
 
-load_parts : (nodes : ℕ) (e : Event) → IsForm nodes (codes "load") e → (x : Addr × List ℕ) × (Both (IsPlace nodes) IsContent x × (pair_text addr_text encode_lower x ≡ arguments e))
+load_parts : (nodes : ℕ) (e : Event) → IsForm nodes (codes "load") e → (x : Addr × List ℕ) × (Both (IsTextAddr nodes) IsContent x × (pair_text addr_text encode_lower x ≡ arguments e))
 load_parts nodes (Load a bytes) f = ((a, bytes), (((f.1.0.0, f.1.1.0), (f.1.0.1, f.1.1.1)), refl))
 load_parts nodes e f = absurd (differ (verb e) (codes "load") f.0 refl)
 
 pub load_uncut : (nodes : ℕ) (words : List ℕ) → Lacks 32 words → Refuses arguments (IsForm nodes (codes "load")) words
-load_uncut nodes words h = form nodes (codes "load") (pair_text addr_text encode_lower) (Both (IsPlace nodes) IsContent) words (load_parts nodes) (pair_uncut addr_text encode_lower (IsPlace nodes) IsContent words h)
+load_uncut nodes words h = form nodes (codes "load") (pair_text addr_text encode_lower) (Both (IsTextAddr nodes) IsContent) words (load_parts nodes) (pair_uncut addr_text encode_lower (IsTextAddr nodes) IsContent words h)
 
-pub load_place : (nodes : ℕ) (words a b : List ℕ) → IsCut 32 words a b → Refuses addr_text (IsPlace nodes) a → Refuses arguments (IsForm nodes (codes "load")) words
-load_place nodes words a b cut h = form nodes (codes "load") (pair_text addr_text encode_lower) (Both (IsPlace nodes) IsContent) words (load_parts nodes) (pair_front addr_text encode_lower (IsPlace nodes) IsContent words a b (addr_clean nodes) cut h)
+pub load_place : (nodes : ℕ) (words a b : List ℕ) → IsCut 32 words a b → Refuses addr_text (IsTextAddr nodes) a → Refuses arguments (IsForm nodes (codes "load")) words
+load_place nodes words a b cut h = form nodes (codes "load") (pair_text addr_text encode_lower) (Both (IsTextAddr nodes) IsContent) words (load_parts nodes) (pair_front addr_text encode_lower (IsTextAddr nodes) IsContent words a b (addr_clean nodes) cut h)
 
 pub load_bytes : (nodes : ℕ) (words a b : List ℕ) → IsCut 32 words a b → Refuses encode_lower IsContent b → Refuses arguments (IsForm nodes (codes "load")) words
-load_bytes nodes words a b cut h = form nodes (codes "load") (pair_text addr_text encode_lower) (Both (IsPlace nodes) IsContent) words (load_parts nodes) (pair_back addr_text encode_lower (IsPlace nodes) IsContent words a b (addr_clean nodes) cut h)
+load_bytes nodes words a b cut h = form nodes (codes "load") (pair_text addr_text encode_lower) (Both (IsTextAddr nodes) IsContent) words (load_parts nodes) (pair_back addr_text encode_lower (IsTextAddr nodes) IsContent words a b (addr_clean nodes) cut h)
 
 alloc_parts : (nodes : ℕ) (e : Event) → IsForm nodes (codes "alloc") e → (x : TxnId × (ℕ × List ℕ)) × (Both IsTxn (Both (λ n. (n < nodes) × (n < 2 ^ 32)) IsContent) x × (pair_text txn_text (pair_text decimal encode_lower) x ≡ arguments e))
 alloc_parts nodes (Alloc t n bytes) f = ((t, (n, bytes)), (((f.1.0.0, f.1.1.0), ((f.1.0.1, f.1.1.1), (f.1.0.2, f.1.1.2))), refl))
@@ -105,55 +105,67 @@ alloc_node nodes words a b c d cut second h = alloc_rest nodes words a b cut (pa
 pub alloc_bytes : (nodes : ℕ) (words a b c d : List ℕ) → IsCut 32 words a b → IsCut 32 b c d → Refuses encode_lower IsContent d → Refuses arguments (IsForm nodes (codes "alloc")) words
 alloc_bytes nodes words a b c d cut second h = alloc_rest nodes words a b cut (pair_back decimal encode_lower (λ n. (n < nodes) × (n < 2 ^ 32)) IsContent b c d (node_clean nodes) second h)
 
-lock_parts : (nodes : ℕ) (e : Event) → IsForm nodes (codes "lock") e → (x : TxnId × (Addr × Option (List ℕ))) × (Both IsTxn (Both (IsPlace nodes) IsNewContent) x × (pair_text txn_text (pair_text addr_text new_text) x ≡ arguments e))
+lock_parts : (nodes : ℕ) (e : Event) → IsForm nodes (codes "lock") e → (x : TxnId × (Addr × Option (List ℕ))) × (Both IsTxn (Both (IsTextAddr nodes) IsNewContent) x × (pair_text txn_text (pair_text addr_text new_text) x ≡ arguments e))
 lock_parts nodes (Lock t a new) f = ((t, (a, new)), (((f.1.0.0, f.1.1.0), ((f.1.0.1, f.1.1.1), (f.1.0.2, f.1.1.2))), refl))
 lock_parts nodes e f = absurd (differ (verb e) (codes "lock") f.0 refl)
 
-lock_refused : (nodes : ℕ) (words : List ℕ) → Refuses (pair_text txn_text (pair_text addr_text new_text)) (Both IsTxn (Both (IsPlace nodes) IsNewContent)) words → Refuses arguments (IsForm nodes (codes "lock")) words
-lock_refused nodes words h = form nodes (codes "lock") (pair_text txn_text (pair_text addr_text new_text)) (Both IsTxn (Both (IsPlace nodes) IsNewContent)) words (lock_parts nodes) h
+lock_refused : (nodes : ℕ) (words : List ℕ) → Refuses (pair_text txn_text (pair_text addr_text new_text)) (Both IsTxn (Both (IsTextAddr nodes) IsNewContent)) words → Refuses arguments (IsForm nodes (codes "lock")) words
+lock_refused nodes words h = form nodes (codes "lock") (pair_text txn_text (pair_text addr_text new_text)) (Both IsTxn (Both (IsTextAddr nodes) IsNewContent)) words (lock_parts nodes) h
 
 pub lock_uncut : (nodes : ℕ) (words : List ℕ) → Lacks 32 words → Refuses arguments (IsForm nodes (codes "lock")) words
-lock_uncut nodes words h = lock_refused nodes words (pair_uncut txn_text (pair_text addr_text new_text) IsTxn (Both (IsPlace nodes) IsNewContent) words h)
+lock_uncut nodes words h = lock_refused nodes words (pair_uncut txn_text (pair_text addr_text new_text) IsTxn (Both (IsTextAddr nodes) IsNewContent) words h)
 
 pub lock_txn : (nodes : ℕ) (words a b : List ℕ) → IsCut 32 words a b → Refuses txn_text IsTxn a → Refuses arguments (IsForm nodes (codes "lock")) words
-lock_txn nodes words a b cut h = lock_refused nodes words (pair_front txn_text (pair_text addr_text new_text) IsTxn (Both (IsPlace nodes) IsNewContent) words a b txn_clean cut h)
+lock_txn nodes words a b cut h = lock_refused nodes words (pair_front txn_text (pair_text addr_text new_text) IsTxn (Both (IsTextAddr nodes) IsNewContent) words a b txn_clean cut h)
 
-lock_rest : (nodes : ℕ) (words a b : List ℕ) → IsCut 32 words a b → Refuses (pair_text addr_text new_text) (Both (IsPlace nodes) IsNewContent) b → Refuses arguments (IsForm nodes (codes "lock")) words
-lock_rest nodes words a b cut h = lock_refused nodes words (pair_back txn_text (pair_text addr_text new_text) IsTxn (Both (IsPlace nodes) IsNewContent) words a b txn_clean cut h)
+lock_rest : (nodes : ℕ) (words a b : List ℕ) → IsCut 32 words a b → Refuses (pair_text addr_text new_text) (Both (IsTextAddr nodes) IsNewContent) b → Refuses arguments (IsForm nodes (codes "lock")) words
+lock_rest nodes words a b cut h = lock_refused nodes words (pair_back txn_text (pair_text addr_text new_text) IsTxn (Both (IsTextAddr nodes) IsNewContent) words a b txn_clean cut h)
 
 pub lock_rest_uncut : (nodes : ℕ) (words a b : List ℕ) → IsCut 32 words a b → Lacks 32 b → Refuses arguments (IsForm nodes (codes "lock")) words
-lock_rest_uncut nodes words a b cut h = lock_rest nodes words a b cut (pair_uncut addr_text new_text (IsPlace nodes) IsNewContent b h)
+lock_rest_uncut nodes words a b cut h = lock_rest nodes words a b cut (pair_uncut addr_text new_text (IsTextAddr nodes) IsNewContent b h)
 
-pub lock_place : (nodes : ℕ) (words a b c d : List ℕ) → IsCut 32 words a b → IsCut 32 b c d → Refuses addr_text (IsPlace nodes) c → Refuses arguments (IsForm nodes (codes "lock")) words
-lock_place nodes words a b c d cut second h = lock_rest nodes words a b cut (pair_front addr_text new_text (IsPlace nodes) IsNewContent b c d (addr_clean nodes) second h)
+pub lock_place : (nodes : ℕ) (words a b c d : List ℕ) → IsCut 32 words a b → IsCut 32 b c d → Refuses addr_text (IsTextAddr nodes) c → Refuses arguments (IsForm nodes (codes "lock")) words
+lock_place nodes words a b c d cut second h = lock_rest nodes words a b cut (pair_front addr_text new_text (IsTextAddr nodes) IsNewContent b c d (addr_clean nodes) second h)
 
 pub lock_new : (nodes : ℕ) (words a b c d : List ℕ) → IsCut 32 words a b → IsCut 32 b c d → Refuses new_text IsNewContent d → Refuses arguments (IsForm nodes (codes "lock")) words
-lock_new nodes words a b c d cut second h = lock_rest nodes words a b cut (pair_back addr_text new_text (IsPlace nodes) IsNewContent b c d (addr_clean nodes) second h)
+lock_new nodes words a b c d cut second h = lock_rest nodes words a b cut (pair_back addr_text new_text (IsTextAddr nodes) IsNewContent b c d (addr_clean nodes) second h)
 
-read_parts : (nodes : ℕ) (e : Event) → IsForm nodes (codes "read") e → (x : TxnId × Addr) × (Both IsTxn (IsPlace nodes) x × (pair_text txn_text addr_text x ≡ arguments e))
+read_parts : (nodes : ℕ) (e : Event) → IsForm nodes (codes "read") e → (x : TxnId × Addr) × (Both IsTxn (IsTextAddr nodes) x × (pair_text txn_text addr_text x ≡ arguments e))
 read_parts nodes (Read t a) f = ((t, a), (((f.1.0.0, f.1.1.0), (f.1.0.1, f.1.1.1)), refl))
 read_parts nodes e f = absurd (differ (verb e) (codes "read") f.0 refl)
 
-pub read_refused : (nodes : ℕ) (words : List ℕ) → Refuses (pair_text txn_text addr_text) (Both IsTxn (IsPlace nodes)) words → Refuses arguments (IsForm nodes (codes "read")) words
-read_refused nodes words h = form nodes (codes "read") (pair_text txn_text addr_text) (Both IsTxn (IsPlace nodes)) words (read_parts nodes) h
+pub read_refused : (nodes : ℕ) (words : List ℕ) → Refuses (pair_text txn_text addr_text) (Both IsTxn (IsTextAddr nodes)) words → Refuses arguments (IsForm nodes (codes "read")) words
+read_refused nodes words h = form nodes (codes "read") (pair_text txn_text addr_text) (Both IsTxn (IsTextAddr nodes)) words (read_parts nodes) h
 
-check_parts : (nodes : ℕ) (e : Event) → IsForm nodes (codes "check") e → (x : TxnId × Addr) × (Both IsTxn (IsPlace nodes) x × (pair_text txn_text addr_text x ≡ arguments e))
+check_parts : (nodes : ℕ) (e : Event) → IsForm nodes (codes "check") e → (x : TxnId × Addr) × (Both IsTxn (IsTextAddr nodes) x × (pair_text txn_text addr_text x ≡ arguments e))
 check_parts nodes (Check t a) f = ((t, a), (((f.1.0.0, f.1.1.0), (f.1.0.1, f.1.1.1)), refl))
 check_parts nodes e f = absurd (differ (verb e) (codes "check") f.0 refl)
 
-pub check_refused : (nodes : ℕ) (words : List ℕ) → Refuses (pair_text txn_text addr_text) (Both IsTxn (IsPlace nodes)) words → Refuses arguments (IsForm nodes (codes "check")) words
-check_refused nodes words h = form nodes (codes "check") (pair_text txn_text addr_text) (Both IsTxn (IsPlace nodes)) words (check_parts nodes) h
+pub check_refused : (nodes : ℕ) (words : List ℕ) → Refuses (pair_text txn_text addr_text) (Both IsTxn (IsTextAddr nodes)) words → Refuses arguments (IsForm nodes (codes "check")) words
+check_refused nodes words h = form nodes (codes "check") (pair_text txn_text addr_text) (Both IsTxn (IsTextAddr nodes)) words (check_parts nodes) h
 
-put_parts : (nodes : ℕ) (e : Event) → IsForm nodes (codes "put") e → (x : TxnId × Addr) × (Both IsTxn (IsPlace nodes) x × (pair_text txn_text addr_text x ≡ arguments e))
+put_parts : (nodes : ℕ) (e : Event) → IsForm nodes (codes "put") e → (x : TxnId × Addr) × (Both IsTxn (IsTextAddr nodes) x × (pair_text txn_text addr_text x ≡ arguments e))
 put_parts nodes (Put t a) f = ((t, a), (((f.1.0.0, f.1.1.0), (f.1.0.1, f.1.1.1)), refl))
 put_parts nodes e f = absurd (differ (verb e) (codes "put") f.0 refl)
 
-pub put_refused : (nodes : ℕ) (words : List ℕ) → Refuses (pair_text txn_text addr_text) (Both IsTxn (IsPlace nodes)) words → Refuses arguments (IsForm nodes (codes "put")) words
-put_refused nodes words h = form nodes (codes "put") (pair_text txn_text addr_text) (Both IsTxn (IsPlace nodes)) words (put_parts nodes) h
+pub put_refused : (nodes : ℕ) (words : List ℕ) → Refuses (pair_text txn_text addr_text) (Both IsTxn (IsTextAddr nodes)) words → Refuses arguments (IsForm nodes (codes "put")) words
+put_refused nodes words h = form nodes (codes "put") (pair_text txn_text addr_text) (Both IsTxn (IsTextAddr nodes)) words (put_parts nodes) h
 
-unlock_parts : (nodes : ℕ) (e : Event) → IsForm nodes (codes "unlock") e → (x : TxnId × Addr) × (Both IsTxn (IsPlace nodes) x × (pair_text txn_text addr_text x ≡ arguments e))
+unlock_parts : (nodes : ℕ) (e : Event) → IsForm nodes (codes "unlock") e → (x : TxnId × Addr) × (Both IsTxn (IsTextAddr nodes) x × (pair_text txn_text addr_text x ≡ arguments e))
 unlock_parts nodes (Unlock t a) f = ((t, a), (((f.1.0.0, f.1.1.0), (f.1.0.1, f.1.1.1)), refl))
 unlock_parts nodes e f = absurd (differ (verb e) (codes "unlock") f.0 refl)
 
-pub unlock_refused : (nodes : ℕ) (words : List ℕ) → Refuses (pair_text txn_text addr_text) (Both IsTxn (IsPlace nodes)) words → Refuses arguments (IsForm nodes (codes "unlock")) words
-unlock_refused nodes words h = form nodes (codes "unlock") (pair_text txn_text addr_text) (Both IsTxn (IsPlace nodes)) words (unlock_parts nodes) h
+pub unlock_refused : (nodes : ℕ) (words : List ℕ) → Refuses (pair_text txn_text addr_text) (Both IsTxn (IsTextAddr nodes)) words → Refuses arguments (IsForm nodes (codes "unlock")) words
+unlock_refused nodes words h = form nodes (codes "unlock") (pair_text txn_text addr_text) (Both IsTxn (IsTextAddr nodes)) words (unlock_parts nodes) h
+
+-- why words are not those of a load
+pub ruleset no_load = (load_uncut, load_place, load_bytes)
+
+-- why words are no transaction with an address
+pub ruleset no_placed = (placed_uncut, placed_txn, placed_place)
+
+-- why words are not those of an alloc
+pub ruleset no_alloc = (alloc_uncut, alloc_txn, alloc_rest_uncut, alloc_node, alloc_bytes)
+
+-- why words are not those of a lock
+pub ruleset no_lock = (lock_uncut, lock_txn, lock_rest_uncut, lock_place, lock_new)

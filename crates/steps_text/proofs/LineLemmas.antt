@@ -1,7 +1,7 @@
 -- The lines of a text.
 use Rattle.std.proofs.Common.{◌≡◌, ◌≢◌, ℕ, zero, suc, ◌+◌, ◌<◌, List, [], ◌∷◌, ◌++◌, length, get_or, take, drop, refl, sym, ap, ◌∙◌, append_assoc, add-one, arith}
 use Rattle.farm_core.specs.declared.event.Event.{Event}
-use Rattle.steps_text.specs.EventText.{event_text, line_text, IsEvent, NoLine}
+use Rattle.steps_text.specs.EventText.{event_text, event_line, IsEvent, NoLine}
 use Rattle.steps_text.specs.Reading.{Lacks, IsCut, Refuses, Fails, FailsLine}
 use Rattle.steps_text.specs.declared.fault.LineFault.{LineFault}
 use Rattle.steps_text.specs.declared.fault.LineFault.TheVariants.{Malformed, Memory}
@@ -28,7 +28,7 @@ cut_at mark text at h same l = rw add-one (record { whole = at_mark text at h �
 
 -- ---- one line
 
-pub line_first : (e : Event) (rest : List ℕ) → line_text e ++ rest ≡ event_text e ++ 10 ∷ rest
+pub line_first : (e : Event) (rest : List ℕ) → event_line e ++ rest ≡ event_text e ++ 10 ∷ rest
 line_first e rest = append_assoc (event_text e) (10 ∷ []) rest
 
 pub unended : (nodes : ℕ) (text : List ℕ) → Lacks 10 text → NoLine nodes text
@@ -42,5 +42,8 @@ pub line_fails : (nodes : ℕ) (text line rest : List ℕ) (fault : LineFault) �
 line_fails nodes text line rest Malformed cut h = line_refused nodes text line rest cut h
 line_fails nodes text line rest Memory cut h = tt
 
-pub line_read : (e : Event) (text line rest : List ℕ) → IsCut 10 text line rest → event_text e ≡ line → text ≡ line_text e ++ rest
+pub line_read : (e : Event) (text line rest : List ℕ) → IsCut 10 text line rest → event_text e ≡ line → text ≡ event_line e ++ rest
 line_read e text line rest cut same = cut.whole ∙ ap (λ xs. xs ++ 10 ∷ rest) (sym same) ∙ sym (line_first e rest)
+
+-- how the first line is read, or is no event's
+pub ruleset first_line = (unended, line_fails, line_read)

@@ -9,8 +9,8 @@ use Rattle.a1_base.specs.declared.place.Addr.{Addr}
 use Rattle.a1_base.specs.declared.place.TxnId.{TxnId}
 use Rattle.farm_core.specs.declared.event.Event.{Event}
 use Rattle.farm_core.specs.declared.event.Event.TheVariants.{Load, Begin, Read, Alloc, Lock, Draw, Check, Put, Unlock, Shut, Collect}
-use Rattle.steps_text.specs.EventText.{txn_text, addr_text, new_text, event_text, line_text, IsEvent, BreaksAfter}
-use Rattle.steps_text.specs.Reading.{IsTxn, IsPlace, IsContent, IsNewContent, verb, arguments}
+use Rattle.steps_text.specs.EventText.{txn_text, addr_text, new_text, event_text, event_line, IsEvent, BreaksAfter}
+use Rattle.steps_text.specs.Reading.{IsTxn, IsTextAddr, IsContent, IsNewContent, verb, arguments}
 use Rattle.steps_text.proofs.WordLemmas.{one_cut, actor_clean, region_clean}
 use Rattle.steps_text.proofs.FormLemmas.{differ, txn_clean, addr_clean, node_clean, offset_small}
 use Rattle.steps_text.proofs.EventLemmas.{verb_clean, verb_first, event_clean}
@@ -30,7 +30,7 @@ txn_one t u v w e =
     let make : ℕ → ℕ → TxnId = λ actor number. record { actor = actor; number = number } in
     both_same make t.actor u.actor t.number u.number (decimal_injective t.actor u.actor (omega arith) (omega arith) parts.0) (decimal_injective t.number u.number v.1 w.1 parts.1)
 
-addr_one : (nodes : ℕ) (a b : Addr) → IsPlace nodes a → IsPlace nodes b → addr_text a ≡ addr_text b → a ≡ b
+addr_one : (nodes : ℕ) (a b : Addr) → IsTextAddr nodes a → IsTextAddr nodes b → addr_text a ≡ addr_text b → a ≡ b
 addr_one nodes a b v w e =
     let parts = one_cut 58 (decimal a.region) (decimal a.offset) (decimal b.region) (decimal b.offset) (region_clean a v.1) (region_clean b w.1) e in
     let make : ℕ → ℕ → Addr = λ region offset. record { region = region; offset = offset } in
@@ -51,7 +51,7 @@ new_one (Some xs) (Some ys) v w e = ap Some (content_one xs ys v w e)
 
 -- ---- events
 
-placed_one : (nodes : ℕ) (f : TxnId → Addr → Event) (t u : TxnId) (a b : Addr) → IsTxn t → IsTxn u → IsPlace nodes a → IsPlace nodes b → txn_text t ++ 32 ∷ addr_text a ≡ txn_text u ++ 32 ∷ addr_text b → f t a ≡ f u b
+placed_one : (nodes : ℕ) (f : TxnId → Addr → Event) (t u : TxnId) (a b : Addr) → IsTxn t → IsTxn u → IsTextAddr nodes a → IsTextAddr nodes b → txn_text t ++ 32 ∷ addr_text a ≡ txn_text u ++ 32 ∷ addr_text b → f t a ≡ f u b
 placed_one nodes f t u a b vt vu va vb e =
     let parts = one_cut 32 (txn_text t) (addr_text a) (txn_text u) (addr_text b) (txn_clean t vt) (txn_clean u vu) e in
     both_same f t u a b (txn_one t u vt vu parts.0) (addr_one nodes a b va vb parts.1)
@@ -99,30 +99,30 @@ event_one nodes e f v w same =
 
 -- ---- texts
 
-line_some : (e : Event) (rest : List ℕ) → 0 < length (line_text e ++ rest)
+line_some : (e : Event) (rest : List ℕ) → 0 < length (event_line e ++ rest)
 line_some e rest = let size = length-append (event_text e) (10 ∷ []) in omega (arith, length-append (event_text e ++ 10 ∷ []) rest)
 
 -- two texts that begin with an event's line
-same_line : (nodes : ℕ) (e f : Event) (xs ys : List ℕ) → IsEvent nodes e → IsEvent nodes f → line_text e ++ xs ≡ line_text f ++ ys → (event_text e ≡ event_text f) × (xs ≡ ys)
+same_line : (nodes : ℕ) (e f : Event) (xs ys : List ℕ) → IsEvent nodes e → IsEvent nodes f → event_line e ++ xs ≡ event_line f ++ ys → (event_text e ≡ event_text f) × (xs ≡ ys)
 same_line nodes e f xs ys v w same = one_cut 10 (event_text e) xs (event_text f) ys (event_clean nodes e v) (event_clean nodes f w) (sym (line_first e xs) ∙ same ∙ line_first f ys)
 
-pub same_events : (nodes : ℕ) (events others : List Event) → AllByRecursion (IsEvent nodes) events → AllByRecursion (IsEvent nodes) others → flat_map line_text events ≡ flat_map line_text others → events ≡ others
+pub same_events : (nodes : ℕ) (events others : List Event) → AllByRecursion (IsEvent nodes) events → AllByRecursion (IsEvent nodes) others → flat_map event_line events ≡ flat_map event_line others → events ≡ others
 same_events nodes [] [] v w same = refl
-same_events nodes [] (f ∷ others) v w same = let some = line_some f (flat_map line_text others) in let size = ap length same in absurd (omega arith)
-same_events nodes (e ∷ events) [] v w same = let some = line_some e (flat_map line_text events) in let size = ap length same in absurd (omega arith)
+same_events nodes [] (f ∷ others) v w same = let some = line_some f (flat_map event_line others) in let size = ap length same in absurd (omega arith)
+same_events nodes (e ∷ events) [] v w same = let some = line_some e (flat_map event_line events) in let size = ap length same in absurd (omega arith)
 same_events nodes (e ∷ events) (f ∷ others) v w same =
-    let parts = same_line nodes e f (flat_map line_text events) (flat_map line_text others) v.0 w.0 same in
+    let parts = same_line nodes e f (flat_map event_line events) (flat_map event_line others) v.0 w.0 same in
     both_same (λ x xs. x ∷ xs) e f events others (event_one nodes e f v.0 w.0 parts.0) (same_events nodes events others v.1 w.1 parts.1)
 
 -- what is the text of these events begins, behind the lines of others, with an event's line or ends
-pub not_broken : (nodes : ℕ) (events others : List Event) (text rest : List ℕ) → AllByRecursion (IsEvent nodes) events → text ≡ flat_map line_text events → BreaksAfter nodes text others rest → ⊥
+pub not_broken : (nodes : ℕ) (events others : List Event) (text rest : List ℕ) → AllByRecursion (IsEvent nodes) events → text ≡ flat_map event_line events → BreaksAfter nodes text others rest → ⊥
 not_broken nodes [] [] text rest v lines b = let size = ap length (sym lines ∙ b.lines) in let more = b.more in omega arith
-not_broken nodes (e ∷ events) [] text rest v lines b = b.none e (flat_map line_text events) v.0 (sym b.lines ∙ lines)
+not_broken nodes (e ∷ events) [] text rest v lines b = b.none e (flat_map event_line events) v.0 (sym b.lines ∙ lines)
 not_broken nodes [] (f ∷ others) text rest v lines b =
-    let start = line_some f (flat_map line_text others ++ rest) in
-    let size = ap length (sym lines ∙ b.lines ∙ append_assoc (line_text f) (flat_map line_text others) rest) in
+    let start = line_some f (flat_map event_line others ++ rest) in
+    let size = ap length (sym lines ∙ b.lines ∙ append_assoc (event_line f) (flat_map event_line others) rest) in
     omega arith
 not_broken nodes (e ∷ events) (f ∷ others) text rest v lines b =
-    let whole = sym lines ∙ b.lines ∙ append_assoc (line_text f) (flat_map line_text others) rest in
-    let parts = same_line nodes e f (flat_map line_text events) (flat_map line_text others ++ rest) v.0 b.each.0 whole in
-    not_broken nodes events others (flat_map line_text events) rest v.1 refl (record { each = b.each.1; lines = parts.1; more = b.more; none = b.none })
+    let whole = sym lines ∙ b.lines ∙ append_assoc (event_line f) (flat_map event_line others) rest in
+    let parts = same_line nodes e f (flat_map event_line events) (flat_map event_line others ++ rest) v.0 b.each.0 whole in
+    not_broken nodes events others (flat_map event_line events) rest v.1 refl (record { each = b.each.1; lines = parts.1; more = b.more; none = b.none })

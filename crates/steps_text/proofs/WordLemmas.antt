@@ -14,7 +14,7 @@ use Rattle.a1_base.specs.declared.place.Addr.{Addr}
 use Rattle.a1_base.specs.declared.place.TxnId.{TxnId}
 use Rattle.object_region.specs.Occupancy.{region_count, width}
 use Rattle.steps_text.specs.EventText.{txn_text, addr_text, FitsAddr}
-use Rattle.steps_text.specs.Reading.{Lacks, IsCut, Refuses, Parses, IsTxn, IsPlace}
+use Rattle.steps_text.specs.Reading.{Lacks, IsCut, Refuses, Parses, IsTxn, IsTextAddr}
 
 -- ---- cuts
 
@@ -137,23 +137,29 @@ txn_number word a b cut h = refused_back 46 (λ t. decimal t.actor) (λ t. t.num
 pub region_clean : (a : Addr) → FitsAddr a → Lacks 58 (decimal a.region)
 region_clean a h = decimal_lacks 58 a.region (λ r. omega arith) (omega arith)
 
-pub addr_uncut : (nodes : ℕ) (word : List ℕ) → Lacks 58 word → Refuses addr_text (IsPlace nodes) word
-addr_uncut nodes word h = refused_uncut 58 (λ a. decimal a.region) (λ a. decimal a.offset) (IsPlace nodes) word h
+pub addr_uncut : (nodes : ℕ) (word : List ℕ) → Lacks 58 word → Refuses addr_text (IsTextAddr nodes) word
+addr_uncut nodes word h = refused_uncut 58 (λ a. decimal a.region) (λ a. decimal a.offset) (IsTextAddr nodes) word h
 
-pub addr_region : (nodes limit : ℕ) (word a b : List ℕ) → limit ≡ REGION_LIMIT * nodes → IsCut 58 word a b → Refuses decimal (λ n. (n < limit) × (n < 2 ^ 32)) a → Refuses addr_text (IsPlace nodes) word
+pub addr_region : (nodes limit : ℕ) (word a b : List ℕ) → limit ≡ REGION_LIMIT * nodes → IsCut 58 word a b → Refuses decimal (λ n. (n < limit) × (n < 2 ^ 32)) a → Refuses addr_text (IsTextAddr nodes) word
 unfolding region_count
 addr_region nodes limit word a b e cut h =
-    refused_front 58 decimal (λ p. p.region) (λ p. decimal p.offset) (λ n. (n < limit) × (n < 2 ^ 32)) (IsPlace nodes) word a b
+    refused_front 58 decimal (λ p. p.region) (λ p. decimal p.offset) (λ n. (n < limit) × (n < 2 ^ 32)) (IsTextAddr nodes) word a b
     (λ n v. decimal_lacks 58 n (λ r. omega arith) (omega arith)) (λ p v. (omega arith, v.1)) cut h
 
-pub addr_offset : (nodes : ℕ) (word a b : List ℕ) → IsCut 58 word a b → Refuses decimal (λ n. (n < REGION_WIDTH) × (n < 2 ^ 32)) b → Refuses addr_text (IsPlace nodes) word
+pub addr_offset : (nodes : ℕ) (word a b : List ℕ) → IsCut 58 word a b → Refuses decimal (λ n. (n < REGION_WIDTH) × (n < 2 ^ 32)) b → Refuses addr_text (IsTextAddr nodes) word
 unfolding width
 addr_offset nodes word a b cut h =
-    refused_back 58 (λ p. decimal p.region) (λ p. p.offset) decimal (λ n. (n < REGION_WIDTH) × (n < 2 ^ 32)) (IsPlace nodes) word a b
+    refused_back 58 (λ p. decimal p.region) (λ p. p.offset) decimal (λ n. (n < REGION_WIDTH) × (n < 2 ^ 32)) (IsTextAddr nodes) word a b
     (λ p v. region_clean p v.1) (λ p v. (v.0.1, let h : p.offset < REGION_WIDTH = v.0.1 in omega arith)) cut h
 
 pub addr_read : (nodes limit region offset : ℕ) (word a b : List ℕ) → limit ≡ REGION_LIMIT * nodes → IsCut 58 word a b
     → (decimal region ≡ a) × ((region < limit) × (region < 2 ^ 32)) → (decimal offset ≡ b) × ((offset < REGION_WIDTH) × (offset < 2 ^ 32))
-    → let at : Addr = record { region = region; offset = offset } in (addr_text at ≡ word) × IsPlace nodes at
+    → let at : Addr = record { region = region; offset = offset } in (addr_text at ≡ word) × IsTextAddr nodes at
 unfolding region_count width
 addr_read nodes limit region offset word a b e cut r o = (rw (r.0, o.0) (sym cut.whole), ((omega arith, o.1.0), r.1.1))
+
+-- why a word is no transaction
+pub ruleset no_txn = (txn_uncut, txn_actor, txn_number)
+
+-- why a word is no address
+pub ruleset no_addr = (addr_uncut, addr_region, addr_offset)

@@ -81,23 +81,23 @@ IsEvent nodes e = InRange nodes e × EventFits e
 -- ---- a text of events
 
 -- an event's text and LF
-abbrev pub line_text : Event → List ℕ
-line_text e = event_text e ++ 10 ∷ []
+abbrev pub event_line : Event → List ℕ
+event_line e = event_text e ++ 10 ∷ []
 
 -- the text is the lines of these events
 pub record IsTextOf (nodes : ℕ) (text : List ℕ) (events : List Event) : Type 0 where
   pub short : length text ≤ SCRIPT_LIMIT
   pub each : AllByRecursion (IsEvent nodes) events
-  pub lines : text ≡ flat_map line_text events
+  pub lines : text ≡ flat_map event_line events
 
 -- the text begins with no event's line
 abbrev pub NoLine : ℕ → List ℕ → Type 0
-NoLine nodes text = (e : Event) (rest : List ℕ) → IsEvent nodes e → text ≡ line_text e ++ rest → ⊥
+NoLine nodes text = (e : Event) (rest : List ℕ) → IsEvent nodes e → text ≡ event_line e ++ rest → ⊥
 
 -- behind the lines of these events, what is left begins with no event's line
 pub record BreaksAfter (nodes : ℕ) (text : List ℕ) (events : List Event) (rest : List ℕ) : Type 0 where
   pub each : AllByRecursion (IsEvent nodes) events
-  pub lines : text ≡ flat_map line_text events ++ rest
+  pub lines : text ≡ flat_map event_line events ++ rest
   pub more : 0 < length rest
   pub none : NoLine nodes rest
 
@@ -131,7 +131,8 @@ answer_words answer.Same = codes "same" ∷ []
 answer_words answer.Put = codes "put" ∷ []
 answer_words answer.Unlocked = codes "unlocked" ∷ []
 answer_words answer.Shut = codes "shut" ∷ []
-answer_words (answer.Collected floor versions objects) = codes "floor" ∷ decimal floor ∷ codes "versions" ∷ decimal versions ∷ codes "objects" ∷ decimal objects ∷ []
+answer_words (answer.Collected floor versions objects) =
+    codes "floor" ∷ decimal floor ∷ codes "versions" ∷ decimal versions ∷ codes "objects" ∷ decimal objects ∷ []
 answer_words answer.No = codes "no" ∷ []
 
 -- the words, parted by one blank

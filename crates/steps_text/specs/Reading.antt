@@ -23,30 +23,30 @@ pub record IsCut (mark : ℕ) (text front back : List ℕ) : Type 0 where
 -- ---- readers
 
 -- the text is that of none of these values
-pub record Refuses {A : Type 0} (text_of : A → List ℕ) (IsValue : A → Type 0) (text : List ℕ) : Type 0 where
-  pub none : (x : A) → IsValue x → text_of x ≡ text → ⊥
+pub record Refuses {A : Type 0} (written : A → List ℕ) (IsValue : A → Type 0) (text : List ℕ) : Type 0 where
+  pub none : (x : A) → IsValue x → written x ≡ text → ⊥
 
 -- the value of a text, or none where it is the text of none
 abbrev pub Parses : {A : Type 0} → (A → List ℕ) → (A → Type 0) → List ℕ → Option A → Type 0
-Parses text_of IsValue text (Some x) = (text_of x ≡ text) × IsValue x
-Parses text_of IsValue text None = Refuses text_of IsValue text
+Parses written IsValue text (Some x) = (written x ≡ text) × IsValue x
+Parses written IsValue text None = Refuses written IsValue text
 
 abbrev pub Fails : {A : Type 0} → (A → List ℕ) → (A → Type 0) → List ℕ → LineFault → Type 0
-Fails text_of IsValue text Malformed = Refuses text_of IsValue text
-Fails text_of IsValue text Memory = ⊤
+Fails written IsValue text Malformed = Refuses written IsValue text
+Fails written IsValue text Memory = ⊤
 
 -- the same of a reader that takes memory
 abbrev pub ParsesOrFails : {A : Type 0} → (A → List ℕ) → (A → Type 0) → List ℕ → Result A LineFault → Type 0
-ParsesOrFails text_of IsValue text (Ok x) = (text_of x ≡ text) × IsValue x
-ParsesOrFails text_of IsValue text (Err e) = Fails text_of IsValue text e
+ParsesOrFails written IsValue text (Ok x) = (written x ≡ text) × IsValue x
+ParsesOrFails written IsValue text (Err e) = Fails written IsValue text e
 
 -- ---- values
 
 abbrev pub IsTxn : TxnId → Type 0
 IsTxn t = IsActor t × FitsTxn t
 
-abbrev pub IsPlace : ℕ → Addr → Type 0
-IsPlace nodes a = IsAddr nodes a × FitsAddr a
+abbrev pub IsTextAddr : ℕ → Addr → Type 0
+IsTextAddr nodes a = IsAddr nodes a × FitsAddr a
 
 abbrev pub IsContent : List ℕ → Type 0
 IsContent bytes = IsObject bytes × IsBytes bytes

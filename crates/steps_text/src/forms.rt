@@ -1,7 +1,7 @@
 //! The forms of an event's line: a function for each first word, of the words behind it.
 ghost use Rattle.std.specs.Prelude.{codes};
 ghost use Rattle.steps_text.specs.EventText.{txn_text, addr_text, event_text, IsEvent};
-ghost use Rattle.steps_text.specs.Reading.{pair_text, Both, IsTxn, IsPlace, Parses, ParsesOrFails, arguments, IsForm};
+ghost use Rattle.steps_text.specs.Reading.{pair_text, Both, IsTxn, IsTextAddr, Parses, ParsesOrFails, arguments, IsForm};
 
 use crate::fault::LineFault;
 use crate::words::{addr, cut, new_content, number_below, object, txn};
@@ -9,7 +9,7 @@ use a1_base::{Addr, TxnId};
 use farm_core::Event;
 use std::alloc::Global;
 
-#[tactic(auto, using(crate::proofs::FormLemmas::load_uncut, crate::proofs::FormLemmas::load_place, crate::proofs::FormLemmas::load_bytes))]
+#[tactic(auto, using(crate::proofs::FormLemmas::no_load))]
 fn load(alloc: Global, nodes: u32, words: &str) -> Result<Event, LineFault>
     ensures { ParsesOrFails arguments (IsForm nodes (codes "load")) words.now result }
 {
@@ -27,9 +27,9 @@ fn begin(nodes: u32, words: &str) -> Option<Event>
 }
 
 // A transaction and an address.
-#[tactic(auto, using(crate::proofs::FormLemmas::placed_uncut, crate::proofs::FormLemmas::placed_txn, crate::proofs::FormLemmas::placed_place))]
+#[tactic(auto, using(crate::proofs::FormLemmas::no_placed))]
 fn placed(nodes: u32, words: &str) -> Option<(TxnId, Addr)>
-    ensures { Parses (pair_text txn_text addr_text) (Both IsTxn (IsPlace nodes)) words.now result }
+    ensures { Parses (pair_text txn_text addr_text) (Both IsTxn (IsTextAddr nodes)) words.now result }
 {
     let (t, at) = cut(words, ' ')?;
     Some((txn(t)?, addr(nodes, at)?))
@@ -43,7 +43,7 @@ fn read(nodes: u32, words: &str) -> Option<Event>
     Some(Event::Read { t, at })
 }
 
-#[tactic(auto, using(crate::proofs::FormLemmas::alloc_uncut, crate::proofs::FormLemmas::alloc_txn, crate::proofs::FormLemmas::alloc_rest_uncut, crate::proofs::FormLemmas::alloc_node, crate::proofs::FormLemmas::alloc_bytes))]
+#[tactic(auto, using(crate::proofs::FormLemmas::no_alloc))]
 fn alloc(alloc: Global, nodes: u32, words: &str) -> Result<Event, LineFault>
     ensures { ParsesOrFails arguments (IsForm nodes (codes "alloc")) words.now result }
 {
@@ -55,7 +55,7 @@ fn alloc(alloc: Global, nodes: u32, words: &str) -> Result<Event, LineFault>
     Ok(Event::Alloc { t, node, bytes })
 }
 
-#[tactic(auto, using(crate::proofs::FormLemmas::lock_uncut, crate::proofs::FormLemmas::lock_txn, crate::proofs::FormLemmas::lock_rest_uncut, crate::proofs::FormLemmas::lock_place, crate::proofs::FormLemmas::lock_new))]
+#[tactic(auto, using(crate::proofs::FormLemmas::no_lock))]
 fn lock(alloc: Global, nodes: u32, words: &str) -> Result<Event, LineFault>
     ensures { ParsesOrFails arguments (IsForm nodes (codes "lock")) words.now result }
 {
@@ -134,7 +134,7 @@ fn form(alloc: Global, nodes: u32, verb: &str, words: &str) -> Result<Event, Lin
 }
 
 // The event of a line, which is given without its LF.
-#[tactic(auto, using(crate::proofs::EventLemmas::event_uncut, crate::proofs::EventLemmas::event_read, crate::proofs::EventLemmas::not_utf8))]
+#[tactic(auto, using(crate::proofs::EventLemmas::event_parts))]
 pub fn event(alloc: Global, nodes: u32, line: &[u8]) -> Result<Event, LineFault>
     ensures { ParsesOrFails event_text (IsEvent nodes) line.now result }
 {

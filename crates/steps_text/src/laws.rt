@@ -7,10 +7,12 @@ use crate::TextFault;
 
 /// A text is that of one list of events at most.
 pub fn one_reading()
-    ensures { (nodes : ℕ) (text : List ℕ) (events others : List Event) → IsTextOf nodes text events → IsTextOf nodes text others → events ≡ others }
+    ensures { (nodes : ℕ) (text : List ℕ) (events others : List Event) →
+        IsTextOf nodes text events → IsTextOf nodes text others → events ≡ others }
 {}
 
 /// A text of events has no fault.
 pub fn no_fault()
-    ensures { (nodes n : ℕ) (text : List ℕ) (events : List Event) → IsTextOf nodes text events → IsFaultOf nodes text (TextFault.Line n) → ⊥ }
+    ensures { (nodes n : ℕ) (text : List ℕ) (events : List Event) →
+        IsTextOf nodes text events → IsFaultOf nodes text (TextFault.Line n) → ⊥ }
 {}

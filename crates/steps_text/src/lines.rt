@@ -1,7 +1,7 @@
 //! The lines of a text, one after another.
 ghost use Rattle.std.specs.Prelude.{◌≡◌, ◌++◌, ◌∷◌, [], List, ℕ, MatchOption, IfOk, IfErr, OnOk, length};
 ghost use Rattle.farm_core.specs.declared.event.Event.{Event};
-ghost use Rattle.steps_text.specs.EventText.{IsEvent, IsTextOf, IsFaultOf, line_text};
+ghost use Rattle.steps_text.specs.EventText.{IsEvent, IsTextOf, IsFaultOf, event_line};
 ghost use Rattle.steps_text.specs.Reading.{Lacks, IsCut, FailsLine};
 
 use crate::TextFault;
@@ -27,14 +27,15 @@ fn cut_line(text: &[u8]) -> Option<(&[u8], &[u8])>
 }
 
 // Adds the event of the first line, and gives what stands behind the line.
-#[tactic(auto, using(crate::proofs::LineLemmas::unended, crate::proofs::LineLemmas::line_fails, crate::proofs::LineLemmas::line_read))]
+#[tactic(auto, using(crate::proofs::LineLemmas::first_line))]
 fn add_line<'a>(
     alloc: Global,
     nodes: u32,
     events: &mut Vec<Event>,
     text: &'a [u8],
 ) -> Result<&'a [u8], LineFault>
-    ensures ok { IfOk result (λ rest. (e : Event) × ((events.new.items ≡ events.old.items ++ e ∷ []) × (IsEvent nodes e × (text.now ≡ line_text e ++ rest.now)))) }
+    ensures ok { IfOk result (λ rest. (e : Event) ×
+        ((events.new.items ≡ events.old.items ++ e ∷ []) × (IsEvent nodes e × (text.now ≡ event_line e ++ rest.now)))) }
     ensures fault { IfErr result (λ fault. FailsLine nodes text.now fault) }
 {
     let (line, rest) = cut_line(text).ok_or(LineFault::Malformed)?;
@@ -45,9 +46,9 @@ fn add_line<'a>(
     }
 }
 
-/// Reads the events of a text of at most 33,554,432 bytes, for a farm of this many nodes. Each line is the text of an
-/// event in range and LF. `Line` names the first line that is not, the last one without LF among them, and 0 where the
-/// text is too long. `Memory` comes for want of memory alone.
+/// Reads the events of a text of at most `SCRIPT_LIMIT` bytes, for a farm of this many nodes. Each line is the text of
+/// an event in range and LF. `Line` names the first line that is not, the last one without LF among them, and 0 where
+/// the text is too long. `Memory` comes for want of memory alone.
 pub fn read(alloc: Global, nodes: u32, text: &[u8]) -> Result<Vec<Event>, TextFault>
     ensures ok { IfOk result (λ events. IsTextOf nodes text.now events.items) }
     ensures fault { IfErr result (λ fault. IsFaultOf nodes text.now fault) }

@@ -4,7 +4,7 @@ ghost use Rattle.std.specs.Char.{is_ascii_uppercase};
 ghost use Rattle.std.specs.List.{list_any};
 ghost use Rattle.hex.specs.Hex.{encode_lower};
 ghost use Rattle.steps_text.specs.EventText.{txn_text, addr_text, new_text};
-ghost use Rattle.steps_text.specs.Reading.{Lacks, IsCut, Parses, ParsesOrFails, IsTxn, IsPlace, IsContent, IsNewContent};
+ghost use Rattle.steps_text.specs.Reading.{Lacks, IsCut, Parses, ParsesOrFails, IsTxn, IsTextAddr, IsContent, IsNewContent};
 
 use crate::fault::LineFault;
 use a1_base::{ACTOR_LIMIT, Addr, Bin, OBJECT_LIMIT, REGION_LIMIT, REGION_WIDTH, TxnId};
@@ -56,7 +56,7 @@ fn actor(word: &str) -> Option<u32>
 }
 
 // A transaction, as `actor.number`.
-#[tactic(auto, using(crate::proofs::WordLemmas::txn_uncut, crate::proofs::WordLemmas::txn_actor, crate::proofs::WordLemmas::txn_number))]
+#[tactic(auto, using(crate::proofs::WordLemmas::no_txn))]
 pub fn txn(word: &str) -> Option<TxnId>
     ensures { Parses txn_text IsTxn word.now result }
 {
@@ -67,9 +67,9 @@ pub fn txn(word: &str) -> Option<TxnId>
 }
 
 // An address, as `region:offset`.
-#[tactic(auto, using(crate::proofs::WordLemmas::addr_uncut, crate::proofs::WordLemmas::addr_region, crate::proofs::WordLemmas::addr_offset))]
+#[tactic(auto, using(crate::proofs::WordLemmas::no_addr))]
 pub fn addr(nodes: u32, word: &str) -> Option<Addr>
-    ensures { Parses addr_text (IsPlace nodes) word.now result }
+    ensures { Parses addr_text (IsTextAddr nodes) word.now result }
 {
     let (region_word, offset_word) = cut(word, ':')?;
     let region = number_below(region_word, u64::from(REGION_LIMIT) * u64::from(nodes))?;
