@@ -1,54 +1,41 @@
--- What a map of made regions has at a number, and which numbers it has.
-use Rattle.std.proofs.Common.{◌≡◌, ℕ, ◌<◌, true, false, cond, eqb, ltb, Less, List, [], ◌∷◌, inl, inr, refl, sym, ap, ◌∙◌, subst, arith}
+-- What a map of made regions has at a number, which numbers it has, and what changes as one of them does.
+use Rattle.std.proofs.Common.{◌≡◌, ℕ, ◌<◌, true, false, cond, List, [], ◌∷◌, length, inl, inr, refl, sym, ap, ◌∙◌, subst, arith}
 use Rattle.std.specs.Prelude.{Option, Some, IsSome}
+use Rattle.std.specs.Option.{option_copied_mut}
 use Rattle.std.specs.Ordering.{nat_cmp, is_eq}
+use Rattle.std.specs.declared.cmp.Ordering.TheVariants.{Less}
 use Rattle.std.specs.List.{AllByRecursion}
-use Rattle.std.specs.Map.{keys_of}
-use Rattle.std.specs.BTreeMap.{insert_entry}
 use Rattle.std.specs.List.Sorted.{IsStrictlySortedBy}
-use Rattle.std.proofs.lemmas.Bool.{cases_eq, cases_lt}
+use Rattle.std.specs.Map.{keys_of, set_value}
+use Rattle.std.specs.BTreeMap.{BTreeMap, insert_entry, is_at, WritesThrough}
+use Rattle.std.proofs.lemmas.Bool.{cond_both}
 use Rattle.std.proofs.lemmas.Bool.Decides.{nat_tests}
+use Rattle.std.proofs.lemmas.Map.Entries.{sum_by-set_value}
 use Rattle.std.proofs.lemmas.Map.Keys.{sorted_head, sorted_tail}
+use denote.MutBor.{MutBor}
+use Rattle.a1_base.specs.Lists.{IsAmong}
 use Rattle.object_region.specs.declared.places.Made.{Made}
 use Rattle.object_region.specs.Occupancy.{add_region}
-use Rattle.a1_base.specs.Lists.{IsAmong}
-use Rattle.object_region.specs.Regions.{made_at}
-
-pub at_is_eqb : (k q : ℕ) → is_eq (nat_cmp k q) ≡ eqb k q
-at_is_eqb k q = grind (arith, nat_tests)
+use Rattle.object_region.specs.Regions.{made_at, listed_count}
 
 -- a fact of what is at q once w was put at k
-pub put_both : (P : Option Made → Type 0) (k q : ℕ) (w : Made) (before after : Option Made) → after ≡ cond (is_eq (nat_cmp k q)) (Some w) before → (q ≡ k → P (Some w)) → ((q ≡ k → ⊥) → P before) → P after
-put_both P k q w before after e here apart =
-    elim (cases_eq q k) [
-      | inl same ↦ let t : is_eq (nat_cmp k q) ≡ true = grind (arith, nat_tests) in
-          subst P (sym (e ∙ ap (λ b. cond b (Some w) before) t)) (here same)
-      | inr other ↦ let t : is_eq (nat_cmp k q) ≡ false = grind (arith, nat_tests) in
-          subst P (sym (e ∙ ap (λ b. cond b (Some w) before) t)) (apart other)
-    ]
-
-made_here : (q : ℕ) (e : ℕ × Made) (es : List (ℕ × Made)) → e.0 ≡ q → made_at (e ∷ es) q ≡ Some e.1
-made_here q e es same = let t : is_eq (nat_cmp q e.0) ≡ true = grind (arith, nat_tests) in ap (λ b. cond b (Some e.1) (made_at es q)) t
-
-made_later : (q : ℕ) (e : ℕ × Made) (es : List (ℕ × Made)) → (e.0 ≡ q → ⊥) → made_at (e ∷ es) q ≡ made_at es q
-made_later q e es other = let t : is_eq (nat_cmp q e.0) ≡ false = grind (arith, nat_tests) in ap (λ b. cond b (Some e.1) (made_at es q)) t
+pub put_both : (P : Option Made → Type 0) (k q : ℕ) (w : Made) (before after : Option Made) → after ≡ cond (is_eq (nat_cmp k q)) (Some w) before
+    → (q ≡ k → P (Some w)) → ((q ≡ k → ⊥) → P before) → P after
+put_both P k q w before after e here apart = subst P (sym e)
+    (cond_both (is_eq (nat_cmp k q)) (Some w) before P (λ t. here (grind (arith, nat_tests, t))) (λ f. apart (λ same. grind (arith, nat_tests, f, same))))
 
 pub made_from_In : (q : ℕ) (made : List (ℕ × Made)) → IsAmong q (keys_of made) → IsSome (made_at made q)
 made_from_In q [] h = absurd h
-made_from_In q (e ∷ es) (inl same) = rw (made_here q e es same) refl
-made_from_In q (e ∷ es) (inr later) =
-    elim (cases_eq e.0 q) [
-      | inl same ↦ rw (made_here q e es same) refl
-      | inr other ↦ rw (made_later q e es other) (made_from_In q es later)
-    ]
+made_from_In q (e ∷ es) h = cond_both (is_eq (nat_cmp q e.0)) (Some e.1) (made_at es q) (λ o. IsSome o) (λ _. refl)
+    (λ f. elim h [
+      | inl same ↦ absurd (grind (arith, nat_tests, f, same))
+      | inr later ↦ made_from_In q es later
+    ])
 
 pub In_from_made : (q : ℕ) (made : List (ℕ × Made)) → IsSome (made_at made q) → IsAmong q (keys_of made)
-In_from_made q [] h = cc
-In_from_made q (e ∷ es) h =
-    elim (cases_eq e.0 q) [
-      | inl same ↦ inl same
-      | inr other ↦ inr (In_from_made q es (rw (made_later q e es other) at h))
-    ]
+In_from_made q [] = λ h. cc
+In_from_made q (e ∷ es) = cond_both (is_eq (nat_cmp q e.0)) (Some e.1) (made_at es q) (λ o. IsSome o → IsAmong q (keys_of (e ∷ es)))
+    (λ t _. inl (grind (arith, nat_tests, t))) (λ _ h. inr (In_from_made q es h))
 
 -- a new number
 pub keys_insert_entry : (k : ℕ) (w : Made) (made : List (ℕ × Made)) → keys_of (insert_entry nat_cmp made k w) ≡ add_region k (keys_of made)
@@ -73,15 +60,33 @@ pub add_region_twice : (k : ℕ) (ks : List ℕ) → add_region k (add_region k 
 add_region_twice k [] = grind (arith, nat_tests)
 add_region_twice k (m ∷ ms) = let more = add_region_twice k ms in grind (arith, nat_tests, more)
 
-pub In_added : (k : ℕ) (ks : List ℕ) → IsAmong k (add_region k ks)
-In_added k [] = inl refl
-In_added k (m ∷ ms) =
-    let more = In_added k ms in
-    elim (cases_eq k m) [
-      | inl same ↦ let t : eqb k m ≡ true = grind (arith, nat_tests) in rw t (inl (sym same))
-      | inr other ↦ let t : eqb k m ≡ false = grind (arith, nat_tests) in
-          elim (cases_lt k m) [
-            | inl below ↦ let u : ltb k m ≡ true = grind (arith, nat_tests) in rw (t, u) (inl refl)
-            | inr past ↦ let u : ltb k m ≡ false = grind (arith, nat_tests) in rw (t, u) (inr more)
-          ]
-    ]
+-- the region k was `old`, and is now w
+pub record Changed (made made' : List (ℕ × Made)) (k : ℕ) (old w : Made) : Type 0 where
+  pub there : made_at made k ≡ Some old
+  pub entries : made' ≡ set_value (is_at (nat_cmp k)) made w
+  pub keys : keys_of made' ≡ keys_of made
+  pub count : length made' ≡ length made
+  pub put : (q : ℕ) → made_at made' q ≡ cond (is_eq (nat_cmp k q)) (Some w) (made_at made q)
+  pub rising : IsStrictlySortedBy nat_cmp (keys_of made)
+
+-- as `get_mut` and what is written to the region that it lent leave it
+pub changed : (m n : BTreeMap ℕ Made) (k : ℕ) (w : Made) (r : Option (MutBor Made)) (x : MutBor Made)
+    → option_copied_mut r ≡ made_at m.entries k → r ≡ Some x → WritesThrough nat_cmp (nat_cmp k) m w n → Changed m.entries n.entries k x.now w
+changed m n k w r x value some through =
+    let there = sym value ∙ ap option_copied_mut some in
+    record {
+      there = there;
+      entries = through.0;
+      keys = through.1;
+      count = through.2;
+      put = (through.3 (rw there refl)).0;
+      rising = subst (IsStrictlySortedBy nat_cmp) through.1 through.4;
+    }
+
+-- one is listed no more
+pub fewer_listed : {k : ℕ} {made made' : List (ℕ × Made)} {m w : Made} → Changed made made' k m w → m.listed ≡ true → w.listed ≡ false
+    → listed_count made' < listed_count made
+fewer_listed {k = k} {made = made} {m = m} {w = w} change before after =
+    let was : cond {A = ℕ} m.listed 1 0 ≡ 1 = rw before refl in
+    let is : cond {A = ℕ} w.listed 1 0 ≡ 0 = rw after refl in
+    rw change.entries (omega (arith, was, is, sum_by-set_value (λ (x : Made). cond x.listed 1 0) (is_at (nat_cmp k)) made m w change.there))

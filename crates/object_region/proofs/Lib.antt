@@ -1,4 +1,3 @@
-pub mod Fewer
 pub mod Keys
 pub mod Kept
 pub mod Occupied

@@ -1,5 +1,5 @@
 -- Which place comes next.
-use Rattle.std.proofs.Common.{◌≡◌, ℕ, ◌+◌, ◌*◌, ◌<◌, true, false, inl, inr, refl, sym, ap, ◌∙◌, subst, arith}
+use Rattle.std.proofs.Common.{◌≡◌, ℕ, ◌+◌, ◌*◌, ◌<◌, true, false, List, inl, inr, ⊎_elim, refl, sym, ap, ◌∙◌, arith}
 use Rattle.std.specs.Prelude.{Option, Some, None, IsSome, IfSome, is_some}
 use Rattle.std.proofs.lemmas.Bool.{false≢true}
 use Rattle.a1_base.specs.declared.place.Addr.{Addr}
@@ -10,11 +10,14 @@ use Rattle.object_region.specs.Regions.{Regions, made_at, taken_in, occupancy_of
 use Rattle.object_region.proofs.Keys.{made_from_In, In_from_made}
 use Rattle.object_region.proofs.Kept.{some_listed}
 
-full_taken : (o : Option Made) → IsSome o → IfSome o (λ m. IsFull m.region) → (j : ℕ) → j < width → taken_in o j ≡ true
-full_taken None some full j within = absurd (false≢true some)
-full_taken (Some m) some full j within = full j within
+full_taken : (made : List (ℕ × Made)) (q : ℕ) → IsSome (made_at made q) → IsFullAt made q → (j : ℕ) → j < width → taken_in (made_at made q) j ≡ true
+full_taken made q = full (made_at made q) where
+  full : (o : Option Made) → IsSome o → IfSome o (λ m. IsFull m.region) → (j : ℕ) → j < width → taken_in o j ≡ true
+  full None some all = absurd (false≢true some)
+  full (Some m) some all = all
 
-first_is_free : (o : Option Made) (offset : ℕ) → IsSome o → IfSome o (λ m. IsFirstFree m.region offset) → (offset < width) × (taken_in o offset ≡ false) × ((j : ℕ) → j < offset → taken_in o j ≡ true)
+first_is_free : (o : Option Made) (offset : ℕ) → IsSome o → IfSome o (λ m. IsFirstFree m.region offset)
+    → (offset < width) × (taken_in o offset ≡ false) × ((j : ℕ) → j < offset → taken_in o j ≡ true)
 first_is_free None offset some first = absurd (false≢true some)
 first_is_free (Some m) offset some first = (first.within, first.free, first.below_taken)
 
@@ -28,10 +31,9 @@ least_made r region offset lowest first =
       free = parts.1;
       least = inl (record {
         region_made = In_from_made region r.made some;
-        below_taken = λ b made within before. elim before [
-          | inl lower ↦ full_taken (made_at r.made b.region) (made_from_In b.region r.made made) (lowest.before_full b.region lower) b.offset within
-          | inr same ↦ subst (λ q. taken_in (made_at r.made q) b.offset ≡ true) (sym same.0) (parts.2 b.offset same.1)
-        ];
+        below_taken = λ b made within. ⊎_elim
+            (λ lower. full_taken r.made b.region (made_from_In b.region r.made made) (lowest.before_full b.region lower) b.offset within)
+            (λ same. rw same.0 (parts.2 b.offset same.1));
       });
     }
 
@@ -42,13 +44,13 @@ least_new r region full lowest = record {
   place = (lowest.of_node, omega arith);
   free = ap (λ o. taken_in o 0) lowest.unmade;
   least = inr (record {
-    all_taken = λ b made within. full_taken (made_at r.made b.region) (made_from_In b.region r.made made) (full b.region) b.offset within;
+    all_taken = λ b made. full_taken r.made b.region (made_from_In b.region r.made made) (full b.region) b.offset;
     not_made = λ made. false≢true (sym (ap (λ o. is_some o) lowest.unmade) ∙ made_from_In region r.made made);
     lower_made = λ k below. In_from_made (r.node + k * r.nodes) r.made (lowest.before_made k below);
     first = refl;
   });
 }
 
-pub all_spent : (r : Regions) → ((q : ℕ) → IsFullAt r.made q) → ((k : ℕ) → k < region_count → IsSome (made_at r.made (r.node + k * r.nodes))) → IsSpent (occupancy_of r)
-all_spent r full made a place =
-    full_taken (made_at r.made a.region) (subst (λ q. IsSome (made_at r.made q)) (sym place.0.2) (made place.0.0 place.0.1)) (full a.region) a.offset place.1
+pub all_spent : (r : Regions) → ((q : ℕ) → IsFullAt r.made q) → ((k : ℕ) → k < region_count → IsSome (made_at r.made (r.node + k * r.nodes)))
+    → IsSpent (occupancy_of r)
+all_spent r full made a place = full_taken r.made a.region (rw place.0.2 (made place.0.0 place.0.1)) (full a.region) a.offset place.1

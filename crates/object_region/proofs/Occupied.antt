@@ -1,23 +1,21 @@
 -- What holds of the places of a node at all times.
-use Rattle.std.proofs.Common.{◌≡◌, ℕ, ◌<◌, Bool, true, false, ◌&&◌, nat_lt, List, [], ◌∷◌, Option, Some, None, refl, arith}
+use Rattle.std.proofs.Common.{◌≡◌, ℕ, ◌<◌, true, List, [], ◌∷◌, Option, Some, None, refl, arith}
 use Rattle.std.specs.Ordering.{nat_cmp}
 use Rattle.std.specs.declared.cmp.Ordering.TheVariants.{Less}
 use Rattle.std.specs.List.{AllByRecursion}
 use Rattle.std.specs.List.Sorted.{IsStrictlySortedBy}
 use Rattle.std.specs.Map.{keys_of}
 use Rattle.std.specs.Prelude.{IsSome}
+use Rattle.std.proofs.lemmas.Bool.{and_parts, ltb-true}
 use Rattle.std.proofs.lemmas.Bool.Decides.{nat_tests}
 use Rattle.object_region.specs.declared.places.Made.{Made}
 use Rattle.object_region.specs.Occupancy.{width, IsBelow, Rises, IsOccupancy}
 use Rattle.object_region.specs.Regions.{Regions, occupancy_of, made_at, taken_in}
 use Rattle.object_region.proofs.Keys.{In_from_made}
 
-less_below : (m y : ℕ) → nat_cmp m y ≡ Less → m < y
-less_below m y less = grind (arith, nat_tests)
-
 below_all : (m : ℕ) (ms : List ℕ) → AllByRecursion (λ y. nat_cmp m y ≡ Less) ms → IsBelow m ms
 below_all m [] h = tt
-below_all m (y ∷ ys) h = (less_below m y h.0, below_all m ys h.1)
+below_all m (y ∷ ys) h = (grind (arith, nat_tests, h.0), below_all m ys h.1)
 
 rising : (ms : List ℕ) → IsStrictlySortedBy nat_cmp ms → Rises ms
 unfolding IsStrictlySortedBy
@@ -26,10 +24,7 @@ rising (m ∷ ms) h = (below_all m ms h.0, rising ms h.1)
 
 taken_there : (o : Option Made) (offset : ℕ) → taken_in o offset ≡ true → IsSome o × (offset < width)
 taken_there None offset e = cc
-taken_there (Some m) offset e = (refl, within (nat_lt offset width) _ refl e) where
-  within : (x y : Bool) → x ≡ nat_lt offset width → (x && y) ≡ true → offset < width
-  within true y is e = grind (arith, nat_tests)
-  within false y is e = cc
+taken_there (Some m) offset e = (refl, ltb-true offset width (and_parts _ _ e).0)
 
 pub occupied : (r : Regions) → IsStrictlySortedBy nat_cmp (keys_of r.made) → IsOccupancy (occupancy_of r)
 occupied r sorted = record {

@@ -2,7 +2,7 @@
 use Rattle.std.specs.Prelude.{◌≡◌, ℕ, ◌+◌, ◌*◌, ◌<◌, ◌≤◌, nat_eq, Bool, true, false, List, length, map, Option, Some, None, IsSome, IfSome}
 use Rattle.std.specs.Ordering.{nat_cmp}
 use Rattle.std.specs.List.{IsDistinct, list_any, count_by}
-use Rattle.std.specs.Map.{lookup, keys_of}
+use Rattle.std.specs.Map.{lookup, keys_of, values_of}
 use Rattle.std.specs.BTreeMap.{is_at}
 use Rattle.std.specs.BinaryHeap.{IsHeap}
 use Rattle.std.specs.declared.cmp.Reverse.{Reverse}
@@ -31,7 +31,7 @@ listed_in (Some m) = m.listed
 
 -- how many made regions are listed
 abbrev pub listed_count : List (ℕ × Made) → ℕ
-listed_count made = count_by (λ e. e.1.listed) made
+listed_count made = count_by (λ m. m.listed) (values_of made)
 
 -- which regions are made, and which places are taken
 abbrev pub occupancy_of : Regions → Occupancy
@@ -71,9 +71,10 @@ pub record IsLowestUnmade (r : Regions) (region : ℕ) : Type 0 where
 abbrev pub numbers : List (Reverse ℕ) → List ℕ
 numbers xs = map (λ x. x.0) xs
 
--- what is kept of the regions: a heap has the number of each listed one, once, and room for the numbers of all; each one
--- that is not listed is full; and the first `next` regions of the node are made
-pub record IsKept (node nodes next : ℕ) (made : List (ℕ × Made)) (open_regions : List (Reverse ℕ)) (room : ℕ) : Type 0 where
+-- what is kept of the regions: a heap has the number of each listed one, once, and room for the numbers of all; each
+-- one that is not listed is full; and the first `next` regions of the node are made
+pub record IsKept (node nodes next : ℕ) (made : List (ℕ × Made)) (open_regions : List (Reverse ℕ)) (room : ℕ)
+    : Type 0 where
   pub some_node : node < nodes
   pub few_nodes : nodes ≤ NODE_LIMIT
   pub within : next ≤ region_count

@@ -57,9 +57,10 @@ impl Model for Places {
 
     ghost Value = { Regions };
 
-    ghost view = { λ p. record { node = p.node; nodes = p.nodes; made = p.regions.entries } };
+    ghost view = { λ places. record { node = places.node; nodes = places.nodes; made = places.regions.entries } };
 
-    ghost invariant = { λ p. IsKept p.node p.nodes p.next p.regions.entries (heap_items p.open_regions) (heap_capacity p.open_regions) };
+    ghost invariant = { λ places. IsKept places.node places.nodes places.next places.regions.entries
+        (heap_items places.open_regions) (heap_capacity places.open_regions) };
 }
 
 impl Places {
@@ -83,8 +84,8 @@ impl Places {
     /// that is not made. `Spent` comes exactly where all places of all regions are taken, `Memory` for want of memory
     /// alone; after either the places are as before.
     pub fn take(&mut self) -> Result<Addr, TakeFault>
-        ensures least { IfOk result (λ a. LeastFree (occupancy_of self.old) a) }
-        ensures ok { IfOk result (λ a. occupancy_of self.new ≡ with_place a (occupancy_of self.old)) }
+        ensures least { IfOk result (λ place. LeastFree (occupancy_of self.old) place) }
+        ensures ok { IfOk result (λ place. occupancy_of self.new ≡ with_place place (occupancy_of self.old)) }
         ensures err { OnErr result (occupancy_of self.new ≡ occupancy_of self.old) }
         ensures spent { (result ≡ Err TakeFault.Spent) ↔ IsSpent (occupancy_of self.old) }
     {
@@ -97,29 +98,30 @@ impl Places {
 
     /// Takes this free place of the node. After `Memory`, which comes for want of memory alone, the places are as
     /// before.
-    pub fn claim(&mut self, a: Addr) -> Result<(), Memory>
-        requires place { IsPlace (occupancy_of self.old) a }
-        requires free { IsFree (occupancy_of self.old) a }
-        ensures ok { OnOk result (occupancy_of self.new ≡ with_place a (occupancy_of self.old)) }
+    pub fn claim(&mut self, place: Addr) -> Result<(), Memory>
+        requires place { IsPlace (occupancy_of self.old) place }
+        requires free { IsFree (occupancy_of self.old) place }
+        ensures ok { OnOk result (occupancy_of self.new ≡ with_place place (occupancy_of self.old)) }
         ensures err { OnErr result (occupancy_of self.new ≡ occupancy_of self.old) }
     {
-        if !self.regions.contains_key(&a.region) {
-            self.make(a.region)?;
+        if !self.regions.contains_key(&place.region) {
+            self.make(place.region)?;
         }
-        self.mark(a);
+        self.mark(place);
         Ok(())
     }
 
     /// Gives this taken place back; its region stays made. It takes no memory.
-    pub fn give(&mut self, a: Addr)
-        requires taken { (occupancy_of self.old).taken a ≡ true }
-        ensures { occupancy_of self.new ≡ without_place a (occupancy_of self.old) }
+    pub fn give(&mut self, place: Addr)
+        requires taken { (occupancy_of self.old).taken place ≡ true }
+        ensures { occupancy_of self.new ≡ without_place place (occupancy_of self.old) }
     {
-        let made = self.regions.get_mut(&a.region).unwrap();
-        made.region.give(a.offset);
-        if !made.listed {
-            made.listed = true;
-            self.open_regions.push(Reverse(a.region)).unwrap();
+        let made = self.regions.get_mut(&place.region).unwrap();
+        made.region.give(place.offset);
+        let listed = made.listed;
+        made.listed = true;
+        if !listed {
+            self.open_regions.push(Reverse(place.region)).unwrap();
         }
     }
 
@@ -135,7 +137,7 @@ impl Places {
     /// lowest region that is not made; none where all places of all regions are taken. The places stay as they are.
     pub fn least_free(&mut self) -> Option<Addr>
         ensures same { occupancy_of self.new ≡ occupancy_of self.old }
-        ensures least { IfSome result (λ a. LeastFree (occupancy_of self.old) a) }
+        ensures least { IfSome result (λ place. LeastFree (occupancy_of self.old) place) }
         ensures spent { IfNone result (IsSpent (occupancy_of self.old)) }
     {
         while let Some(region) = self.lowest_listed() {
@@ -161,7 +163,7 @@ impl Places {
     fn first_free(&mut self, region: u32) -> Option<u32>
         requires made { IsSome (made_at self.old.made region) }
         ensures same { self.new ≡ self.old }
-        ensures free { IfSome result (λ offset. IfSome (made_at self.old.made region) (λ m. IsFirstFree m.region offset)) }
+        ensures free { IfSome result (λ offset. IfSome (made_at self.old.made region) (λ made. IsFirstFree made.region offset)) }
         ensures full { IfNone result (IsFullAt self.old.made region) }
     {
         self.regions.get_mut(&region).unwrap().region.first_free()
@@ -201,6 +203,7 @@ impl Places {
         requires of_node { IsRegion self.old.node self.old.nodes region }
         requires unmade { made_at self.old.made region ≡ None }
         ensures ok { OnOk result (occupancy_of self.new ≡ with_region region (occupancy_of self.old)) }
+        ensures made { OnOk result (IsSome (made_at self.new.made region)) }
         ensures err { OnErr result (occupancy_of self.new ≡ occupancy_of self.old) }
     {
         let made = Made {
@@ -219,12 +222,12 @@ impl Places {
     }
 
     /// Takes a place of a made region.
-    fn mark(&mut self, a: Addr)
-        requires within { a.offset < width }
-        requires made { IsSome (made_at self.old.made a.region) }
-        ensures { occupancy_of self.new ≡ with_place a (occupancy_of self.old) }
+    fn mark(&mut self, place: Addr)
+        requires within { place.offset < width }
+        requires made { IsSome (made_at self.old.made place.region) }
+        ensures { occupancy_of self.new ≡ with_place place (occupancy_of self.old) }
     {
-        let made = self.regions.get_mut(&a.region).unwrap();
-        made.region.take(a.offset);
+        let made = self.regions.get_mut(&place.region).unwrap();
+        made.region.take(place.offset);
     }
 }

@@ -22,16 +22,16 @@ impl Model for Region {
 
     ghost Value = { List Bool };
 
-    ghost view = { λ r. r.taken.items };
+    ghost view = { λ region. region.taken.items };
 
-    ghost invariant = { λ r. (vec_len r.taken ≡ width) × ((k : ℕ) → k < r.low → is_taken r.taken.items k ≡ true) };
+    ghost invariant = { λ region. (vec_len region.taken ≡ width) × ((k : ℕ) → k < region.low → is_taken region.taken.items k ≡ true) };
 }
 
 impl Region {
     /// A region whose places are all free. The error is want of memory.
     #[tactic(auto, unfolding(crate::specs::Occupancy::width))]
     pub fn new(alloc: Global) -> Result<Region, Memory>
-        ensures { IfOk result (λ r. (k : ℕ) → is_taken r k ≡ false) }
+        ensures { IfOk result (λ region. (k : ℕ) → is_taken region k ≡ false) }
     {
         Ok(Region {
             taken: free_places(alloc, REGION_WIDTH as usize)?,
@@ -74,8 +74,8 @@ impl Region {
 }
 
 fn free_places(alloc: Global, count: usize) -> Result<Vec<bool>, Memory>
-    ensures count { IfOk result (λ v. vec_len v ≡ count) }
-    ensures free { IfOk result (λ v. (k : ℕ) → is_taken v.items k ≡ false) }
+    ensures count { IfOk result (λ flags. vec_len flags ≡ count) }
+    ensures free { IfOk result (λ flags. (k : ℕ) → is_taken flags.items k ≡ false) }
 {
     Ok(vec![in alloc; false; count]?)
 }

@@ -1,8 +1,12 @@
 -- A history of one session, line by line.
-use Rattle.std.proofs.Common.{◌≡◌, inl, inr, ℕ, ◌+◌, ◌-◌, ◌<◌, ◌≤◌, List, [], ◌∷◌, ◌++◌, length, Bool, true, false, nat_le, nat_eq, if◌then◌else◌, filter, Option, Some, None, Result, Ok, Err, IsOk, refl, sym, ap, subst, ◌∙◌, arith, append-nil}
+use Rattle.std.proofs.Common.{◌≡◌, ◌⊎◌, inl, inr, ⊎_elim, ℕ, ◌+◌, ◌-◌, ◌<◌, ◌≤◌, List, [], ◌∷◌, ◌++◌, length, false, nat_le, nat_eq, filter, Option, Some, None, Result, Ok, Err, IsOk, zero, suc, refl, sym, ap, subst, ◌∙◌, arith, append-nil}
 use Rattle.std.specs.Prelude.{slice_get, IfSome, option_to_list}
-use Rattle.std.specs.List.{flat_map, AllByRecursion, IsDistinct, cons_option}
-use Rattle.std.proofs.lemmas.List.Elements.{filter-append, filter_map-append}
+use Rattle.std.specs.List.{All, AllByRecursion as ByRecursion, flat_map, IsDistinct, cons_option}
+use Rattle.std.specs.Cmp.{nat_eq_equiv}
+use Rattle.std.proofs.lemmas.List.Elements.{filter-append, filter_map-append, All-nil, All-head, All-tail, All-append, All-push, All-weaker, recursion_from_All}
+use Rattle.std.proofs.lemmas.List.Folds.{list_any_none}
+use Rattle.std.proofs.lemmas.Map.Keys.{IsDistinct-push}
+use Rattle.std.proofs.lemmas.Option.{MatchOption-at_some, IfSome_then, slice_get_within, get_or_from_slice_get}
 use Rattle.std.proofs.lemmas.Grind.{flat_map-append}
 use Rattle.std.proofs.lemmas.Bool.Decides.{nat_tests}
 use Rattle.request_reader.specs.Graph.{Graph}
@@ -11,115 +15,130 @@ use Rattle.request_reader.specs.declared.answer.Answer.TheVariants as answer
 use Rattle.request_reader.specs.declared.request.BadWord.{BadWord}
 use Rattle.request_reader.specs.declared.request.Request.{Request}
 use Rattle.request_reader.specs.declared.request.Request.TheVariants.{Put, Ask}
-use Rattle.request_reader.specs.Request.{request_of}
 use Rattle.answer_text.specs.Reply.{ok_stamp, printed}
 use Rattle.answer_text.specs.Transcript.{asked, Commit, commit_in, commit_of, placed, by_stamp, commits_up_to, kept, replayed, graph_at, ok_stamps}
 use Rattle.answer_text.specs.Legal.{ComesAfter, IsReplyTo}
 use Rattle.answer_text.specs.declared.reply.Reply.{Reply}
 use Rattle.answer_text.specs.declared.reply.Reply.TheVariants as reply
 use Rattle.answer_text.specs.declared.transcript.Line.{Line}
-use Rattle.session.specs.Serving.{Step, Stands, IsPrintedUpTo, IsPrintedBefore}
-use Rattle.session.proofs.ListLemmas.{all_last, all_weaker, all_both, all_joined, all_there, there_before, there_or_last}
-
-flat_last : {X Y : Type 0} (f : X → List Y) (xs : List X) (x : X) → flat_map f (xs ++ x ∷ []) ≡ flat_map f xs ++ f x
-flat_last f xs x = flat_map-append f xs (x ∷ []) ∙ ap (λ ys. flat_map f xs ++ ys) (append-nil (f x))
+use Rattle.session.specs.Serving.{Step, Stands, IsSame, IsPrintedUpTo, IsPrintedBefore}
 
 -- ---- commits by stamp
 
+abbrev IsUpTo : ℕ → Commit → Type 0
+IsUpTo s c = c.stamp ≤ s
+
+abbrev IsAbove : ℕ → Commit → Type 0
+IsAbove s c = s < c.stamp
+
 placed_last : (c d : Commit) (ds : List Commit) → c.stamp ≤ d.stamp → placed c (ds ++ d ∷ []) ≡ placed c ds ++ d ∷ []
 placed_last c d [] h = grind (arith, nat_tests)
-placed_last c d (e ∷ ds) h = by (placed_last c d ds h) (nat_le c.stamp e.stamp)
-  where
-    by : placed c (ds ++ d ∷ []) ≡ placed c ds ++ d ∷ [] → (b : Bool) → (if b then c ∷ e ∷ ds ++ d ∷ [] else e ∷ placed c (ds ++ d ∷ [])) ≡ (if b then c ∷ e ∷ ds else e ∷ placed c ds) ++ d ∷ []
-    by k true = refl
-    by k false = ap (λ xs. e ∷ xs) k
+placed_last c d (e ∷ ds) h = let more = placed_last c d ds h in grind (arith, nat_tests, more)
 
-by_stamp_last : (cs : List Commit) (d : Commit) → AllByRecursion (λ c. c.stamp ≤ d.stamp) cs → by_stamp (cs ++ d ∷ []) ≡ by_stamp cs ++ d ∷ []
+by_stamp_last : (cs : List Commit) (d : Commit) → ByRecursion (λ c. c.stamp ≤ d.stamp) cs → by_stamp (cs ++ d ∷ []) ≡ by_stamp cs ++ d ∷ []
 by_stamp_last [] d h = refl
 by_stamp_last (c ∷ cs) d h = ap (placed c) (by_stamp_last cs d h.1) ∙ placed_last c d (by_stamp cs) h.0
 
-replayed_last : (graph : Graph) (cs : List Commit) (d : Commit) → replayed graph (cs ++ d ∷ []) ≡ kept (replayed graph cs) (effect (replayed graph cs) d.name)
+replayed_last : (graph : Graph) (cs : List Commit) (d : Commit) → replayed graph (cs ++ d ∷ []) ≡ replayed (replayed graph cs) (d ∷ [])
 replayed_last graph [] d = refl
 replayed_last graph (c ∷ cs) d = replayed_last (kept graph (effect graph c.name)) cs d
 
+-- at most one commit, behind all others
+replayed_more : (start : Graph) (cs ds : List Commit) (clock : ℕ) → All (IsUpTo clock) cs → All (IsAbove clock) ds → length ds ≤ 1
+    → replayed start (by_stamp (cs ++ ds)) ≡ replayed (replayed start (by_stamp cs)) ds
+replayed_more start cs [] clock low above few = ap (λ xs. replayed start (by_stamp xs)) (append-nil cs)
+replayed_more start cs (d ∷ []) clock low above few =
+    let first : clock < d.stamp = above 0 d (omega arith) in
+    let lower = All-weaker (IsUpTo clock) (IsUpTo d.stamp) (λ c le. omega (arith, le, first)) cs low in
+    ap (replayed start) (by_stamp_last cs d (recursion_from_All (IsUpTo d.stamp) cs lower)) ∙ replayed_last start (by_stamp cs) d
+replayed_more start cs (d ∷ e ∷ ds) clock low above few = absurd (omega arith)
+
 -- ---- commits up to a stamp
 
-all_up_to : (cs : List Commit) (s : ℕ) → AllByRecursion (λ c. c.stamp ≤ s) cs → filter (λ c. nat_le c.stamp s) cs ≡ cs
+all_up_to : (cs : List Commit) (s : ℕ) → ByRecursion (IsUpTo s) cs → filter (λ c. nat_le c.stamp s) cs ≡ cs
 all_up_to [] s h = refl
 all_up_to (c ∷ cs) s h = rw (all_up_to cs s h.1) (grind (arith, nat_tests, h.0))
 
-commit_low : (clock : ℕ) (r : Result Request BadWord) (p : Reply) → IsPrintedUpTo clock p → AllByRecursion (λ c. c.stamp ≤ clock) (commit_in r p)
-commit_low clock (Ok (Put name)) (reply.Ok stamp) h = (h, tt)
-commit_low clock r p h = tt
+none_up_to : (cs : List Commit) (s : ℕ) → ByRecursion (IsAbove s) cs → filter (λ c. nat_le c.stamp s) cs ≡ []
+none_up_to [] s h = refl
+none_up_to (c ∷ cs) s h = rw (none_up_to cs s h.1) (grind (arith, nat_tests, h.0))
 
-commits_low : (clock : ℕ) (lines : List Line) → AllByRecursion (λ line. IsPrintedUpTo clock line.reply) lines → AllByRecursion (λ c. c.stamp ≤ clock) (flat_map commit_of lines)
-commits_low clock [] h = tt
-commits_low clock (line ∷ lines) h = all_joined (λ (c : Commit). c.stamp ≤ clock) (commit_of line) (flat_map commit_of lines) (commit_low clock (asked line) line.reply h.0) (commits_low clock lines h.1)
+commit_low : (clock : ℕ) (r : Result Request BadWord) (p : Reply) → IsPrintedUpTo clock p → All (IsUpTo clock) (commit_in r p)
+commit_low clock (Ok (Put name)) (reply.Ok stamp) h = All-push (IsUpTo clock) [] _ (All-nil _) h
+commit_low clock r p h = All-nil _
 
--- a line whose commits come later leaves the graph at a stamp as it was
-graph_before : (start : Graph) (lines : List Line) (line : Line) (s : ℕ) → filter (λ c. nat_le c.stamp s) (commit_of line) ≡ [] → graph_at start (lines ++ line ∷ []) s ≡ graph_at start lines s
-unfolding graph_at commits_up_to
-graph_before start lines line s h =
-    let test : Commit → Bool = λ c. nat_le c.stamp s in
-    let e : filter test (flat_map commit_of (lines ++ line ∷ [])) ≡ filter test (flat_map commit_of lines) =
-    ap (filter test) (flat_last commit_of lines line) ∙ filter-append test (flat_map commit_of lines) (commit_of line) ∙ ap (λ xs. filter test (flat_map commit_of lines) ++ xs) h ∙ append-nil (filter test (flat_map commit_of lines)) in
-    ap (λ xs. replayed start (by_stamp xs)) e
+commits_low : (clock : ℕ) (lines : List Line) → All (λ line. IsPrintedUpTo clock line.reply) lines → All (IsUpTo clock) (flat_map commit_of lines)
+commits_low clock [] h = All-nil _
+commits_low clock (line ∷ lines) h = All-append (IsUpTo clock) (commit_of line) (flat_map commit_of lines)
+    (commit_low clock (asked line) line.reply (All-head (λ (l : Line). IsPrintedUpTo clock l.reply) line lines h))
+    (commits_low clock lines (All-tail (λ (l : Line). IsPrintedUpTo clock l.reply) line lines h))
 
--- a commit behind all others
-graph_after : (start : Graph) (lines : List Line) (line : Line) (clock : ℕ) (c : Commit) → AllByRecursion (λ line. IsPrintedUpTo clock line.reply) lines → clock < c.stamp → commit_of line ≡ c ∷ []
-    → graph_at start (lines ++ line ∷ []) c.stamp ≡ kept (graph_at start lines clock) (effect (graph_at start lines clock) c.name)
-unfolding graph_at commits_up_to
-graph_after start lines line clock c h above e =
-    let cs : List Commit = flat_map commit_of lines in
-    let low = commits_low clock lines h in
-    let lower = all_weaker (λ (d : Commit). d.stamp ≤ clock) (λ (d : Commit). d.stamp ≤ c.stamp) cs (λ d k. omega arith) low in
-    let joined : flat_map commit_of (lines ++ line ∷ []) ≡ cs ++ c ∷ [] = flat_last commit_of lines line ∙ ap (λ xs. cs ++ xs) e in
-    let within : filter (λ d. nat_le d.stamp c.stamp) (flat_map commit_of (lines ++ line ∷ [])) ≡ cs ++ c ∷ [] =
-    ap (filter (λ (d : Commit). nat_le d.stamp c.stamp)) joined ∙ all_up_to (cs ++ c ∷ []) c.stamp (all_last (λ (d : Commit). d.stamp ≤ c.stamp) cs c lower (omega arith)) in
-    let sorted = ap by_stamp within ∙ by_stamp_last cs c lower in
-    let before : filter (λ d. nat_le d.stamp clock) cs ≡ cs = all_up_to cs clock low in
-    ap (replayed start) sorted ∙ replayed_last start (by_stamp cs) c ∙ ap (λ xs. kept (replayed start (by_stamp xs)) (effect (replayed start (by_stamp xs)) c.name)) (sym before)
+-- ---- what a request and its reply add to a history that stands at a graph and a clock
+
+record Adds (base : ℕ) (graph : Graph) (clock : ℕ) (r : Result Request BadWord) (p : Reply) (after : Graph) (later : ℕ) : Type 0 where
+  rises : clock ≤ later
+  above : All (IsAbove clock) (commit_in r p)
+  few : length (commit_in r p) ≤ 1
+  replays : replayed graph (commit_in r p) ≡ after
+  up_to : IsPrintedUpTo later p
+  stamp : IfSome (ok_stamp p) (λ s. clock < s)
+  within : IfSome (ok_stamp p) (λ s. (base < s) × (s ≤ later))
+  comes : ComesAfter base (λ s. s ≤ clock) p
+  right : (graphs : ℕ → Graph) → graphs clock ≡ graph → IsReplyTo graphs r p
+
+module _ (base : ℕ) (graph : Graph) (clock : ℕ) (after : Graph) (later : ℕ) where
+  -- one that commits nothing
+  still : (r : Result Request BadWord) (p : Reply) → IsSame graph clock after later → commit_in r p ≡ [] → IsPrintedUpTo clock p → ok_stamp p ≡ None
+      → ComesAfter base (λ s. s ≤ clock) p → ((graphs : ℕ → Graph) → graphs clock ≡ graph → IsReplyTo graphs r p) → Adds base graph clock r p after later
+  still r p same none up silent comes right = record {
+    rises = omega arith;
+    above = rw none (All-nil _);
+    few = rw none (omega arith);
+    replays = rw none (sym same.0);
+    up_to = rw same.1 up;
+    stamp = rw silent tt;
+    within = rw silent tt;
+    comes = comes;
+    right = right;
+  }
+
+  adds : (r : Result Request BadWord) (p : Reply) → base ≤ clock → Step graph clock r p after later → Adds base graph clock r p after later
+  adds (Ok (Put name)) (reply.Ok stamp) low h = record {
+    rises = omega arith;
+    above = All-push (IsAbove clock) [] _ (All-nil _) (omega arith);
+    few = omega arith;
+    replays = ap (kept graph) h.0;
+    up_to = omega arith;
+    stamp = omega arith;
+    within = (omega arith, omega arith);
+    comes = λ s q. omega arith;
+    right = λ graphs e. let down : stamp - 1 ≡ clock = omega arith in rw (down, e, h.0) refl;
+  }
+  adds (Ok (Put name)) (reply.Refused at refusal) low h = still _ _ h.2 refl (omega arith) refl (omega arith, λ s q. omega arith) (λ graphs e. rw (h.1, e) h.0)
+  adds (Ok (Ask name)) (reply.Rows at rows) low h = still _ _ h.2 refl (omega arith) refl (omega arith, λ s q. omega arith) (λ graphs e. rw (h.1, e) h.0)
+  adds (Err word) (reply.Bad printed) low h = still _ _ h.1 refl tt refl tt (λ graphs e. h.0)
+  adds (Ok (Put name)) reply.Memory low h = still _ _ h refl tt refl tt (λ graphs e. tt)
+  adds (Ok (Ask name)) reply.Memory low h = still _ _ h refl tt refl tt (λ graphs e. tt)
+  adds (Err word) reply.Memory low h = still _ _ h refl tt refl tt (λ graphs e. tt)
+  adds r p low h = absurd h
 
 -- ---- stamps
 
-ok_low : (clock : ℕ) (p : Reply) → IsPrintedUpTo clock p → AllByRecursion (λ s. s ≤ clock) (option_to_list (ok_stamp p))
-ok_low clock (reply.Ok stamp) h = (h, tt)
-ok_low clock (reply.Rows at rows) h = tt
-ok_low clock (reply.Refused at refusal) h = tt
-ok_low clock (reply.Bad word) h = tt
-ok_low clock reply.Memory h = tt
-
-ok_first : (line : Line) (lines : List Line) → ok_stamps (line ∷ lines) ≡ option_to_list (ok_stamp line.reply) ++ ok_stamps lines
-ok_first line lines = by (ok_stamp line.reply)
+stamps_last : (lines : List Line) (line : Line) → ok_stamps (lines ++ line ∷ []) ≡ ok_stamps lines ++ option_to_list (ok_stamp line.reply)
+stamps_last lines line = filter_map-append (λ (l : Line). ok_stamp l.reply) lines (line ∷ []) ∙ ap (λ xs. ok_stamps lines ++ xs) (one (ok_stamp line.reply))
   where
-    by : (o : Option ℕ) → cons_option o (ok_stamps lines) ≡ option_to_list o ++ ok_stamps lines
-    by None = refl
-    by (Some s) = refl
+    one : (o : Option ℕ) → cons_option o [] ≡ option_to_list o
+    one None = refl
+    one (Some s) = refl
 
-ok_last : (lines : List Line) (line : Line) → ok_stamps (lines ++ line ∷ []) ≡ ok_stamps lines ++ option_to_list (ok_stamp line.reply)
-ok_last lines line =
-    filter_map-append (λ (l : Line). ok_stamp l.reply) lines (line ∷ []) ∙ ap (λ xs. ok_stamps lines ++ xs) (ok_first line [] ∙ append-nil (option_to_list (ok_stamp line.reply)))
+distinct_more : (xs : List ℕ) (clock : ℕ) (o : Option ℕ) → IsDistinct nat_eq xs → All (λ s. s ≤ clock) xs → IfSome o (λ s. clock < s) → IsDistinct nat_eq (xs ++ option_to_list o)
+distinct_more xs clock None differ low above = rw append-nil differ
+distinct_more xs clock (Some w) differ low above = IsDistinct-push nat_eq_equiv xs w differ
+    (list_any_none (nat_eq w) xs (All-weaker (λ s. s ≤ clock) (λ s. nat_eq w s ≡ false) (λ s le. grind (arith, nat_tests, le, above)) xs low))
 
-oks_low : (clock : ℕ) (lines : List Line) → AllByRecursion (λ line. IsPrintedUpTo clock line.reply) lines → AllByRecursion (λ s. s ≤ clock) (ok_stamps lines)
-oks_low clock [] h = tt
-oks_low clock (line ∷ lines) h =
-    subst (AllByRecursion (λ s. s ≤ clock)) (sym (ok_first line lines))
-    (all_joined (λ s. s ≤ clock) (option_to_list (ok_stamp line.reply)) (ok_stamps lines) (ok_low clock line.reply h.0) (oks_low clock lines h.1))
-
-distinct_last : (xs : List ℕ) (clock w : ℕ) → IsDistinct nat_eq xs → AllByRecursion (λ s. s ≤ clock) xs → clock < w → IsDistinct nat_eq (xs ++ w ∷ [])
-unfolding IsDistinct
-distinct_last [] clock w d h lt = (tt, tt)
-distinct_last (x ∷ xs) clock w d h lt =
-    let other : nat_eq x w ≡ false = let low : x ≤ clock = h.0 in grind (arith, nat_tests) in
-    (all_last (λ y. nat_eq x y ≡ false) xs w d.0 other, distinct_last xs clock w d.1 h.1 lt)
-
-distinct_more : (xs : List ℕ) (clock : ℕ) (o : Option ℕ) → IsDistinct nat_eq xs → AllByRecursion (λ s. s ≤ clock) xs → IfSome o (λ s. clock < s) → IsDistinct nat_eq (xs ++ option_to_list o)
-distinct_more xs clock None d h k = subst (IsDistinct nat_eq) (sym (append-nil xs)) d
-distinct_more xs clock (Some w) d h k = distinct_last xs clock w d h k
-
-above_more : (xs : List ℕ) (base clock : ℕ) (o : Option ℕ) → base ≤ clock → AllByRecursion (λ s. base < s) xs → IfSome o (λ s. clock < s) → AllByRecursion (λ s. base < s) (xs ++ option_to_list o)
-above_more xs base clock None low h k = subst (AllByRecursion (λ s. base < s)) (sym (append-nil xs)) h
-above_more xs base clock (Some w) low h k = all_last (λ s. base < s) xs w h (omega (arith, low, k))
+all_more : (P : ℕ → Type 0) (xs : List ℕ) (o : Option ℕ) → All P xs → IfSome o P → All P (xs ++ option_to_list o)
+all_more P xs None h p = rw append-nil h
+all_more P xs (Some w) h p = All-push P xs w h p
 
 -- ---- what was told
 
@@ -130,165 +149,88 @@ fewer base P Q f (reply.Refused at refusal) h = (h.0, λ s q. h.1 s (f s q))
 fewer base P Q f (reply.Bad word) h = tt
 fewer base P Q f reply.Memory h = tt
 
-says_low : (clock s : ℕ) (p : Reply) → IsPrintedUpTo clock p → printed p ≡ Some s → s ≤ clock
-says_low clock s p h e = by (printed p) h e
-  where
-    by : (o : Option ℕ) → IfSome o (λ s. s ≤ clock) → o ≡ Some s → s ≤ clock
-    by None h e = absurd cc
-    by (Some t) h e = let same : t ≡ s = cc in subst (λ s. s ≤ clock) same h
-
--- a line less: what was told before an earlier line stays the same
-same_told : (lines : List Line) (line : Line) (j s : ℕ) → j ≤ length lines → IsPrintedBefore (lines ++ line ∷ []) j s → IsPrintedBefore lines j s
-same_told lines line j s h q = record {
-  place = q.place;
-  line = q.line;
-  before = q.before;
-  there = sym (there_before lines line q.place (omega (arith, q.before, h))) ∙ q.there;
-  says = q.says;
-}
-
-told_low : (clock : ℕ) (lines : List Line) (j s : ℕ) → AllByRecursion (λ line. IsPrintedUpTo clock line.reply) lines → IsPrintedBefore lines j s → s ≤ clock
-told_low clock lines j s h q = says_low clock s q.line.reply (all_there (λ (line : Line). IsPrintedUpTo clock line.reply) lines q.place q.line h q.there) q.says
-
-told_last : (base clock : ℕ) (lines : List Line) (line : Line) → AllByRecursion (λ line. IsPrintedUpTo clock line.reply) lines
-    → ((j : ℕ) (l : Line) → slice_get lines j ≡ Some l → ComesAfter base (IsPrintedBefore lines j) l.reply) → ComesAfter base (λ s. s ≤ clock) line.reply
-    → (j : ℕ) (l : Line) → slice_get (lines ++ line ∷ []) j ≡ Some l → ComesAfter base (IsPrintedBefore (lines ++ line ∷ []) j) l.reply
-told_last base clock lines line low told comes j l e =
-    elim (there_or_last lines line l j e) [
-      | inl p ↦ fewer base (IsPrintedBefore lines j) (IsPrintedBefore (lines ++ line ∷ []) j) (λ s q. same_told lines line j s (omega (arith, p.0)) q) l.reply (told j l p.1)
-      | inr p ↦ fewer base (λ s. s ≤ clock) (IsPrintedBefore (lines ++ line ∷ []) j) (λ s q. told_low clock lines j s low (same_told lines line j s (omega (arith, p.0)) q)) l.reply (subst (λ (x : Line). ComesAfter base (λ s. s ≤ clock) x.reply) (sym p.1) comes)
-    ]
-
 -- ---- answers
 
 -- a reply that was right stays right where the graphs up to the last stamp stay the same
-reply_stays : (g h : ℕ → Graph) (clock : ℕ) → ((s : ℕ) → s ≤ clock → g s ≡ h s) → (r : Result Request BadWord) (p : Reply) → IsPrintedUpTo clock p → IsReplyTo g r p → IsReplyTo h r p
-reply_stays g h clock same (Ok (Put name)) (reply.Ok stamp) up k = subst (λ x. IsOk (effect x name)) (same (stamp - 1) (omega (arith, up))) k
-reply_stays g h clock same (Ok (Put name)) (reply.Refused at refusal) up k = subst (λ x. effect x name ≡ Err refusal) (same at up) k
-reply_stays g h clock same (Ok (Ask name)) (reply.Rows at rows) up k = subst (λ x. answer x name ≡ answer.Rows rows) (same at up) k
-reply_stays g h clock same r p up k = k
+reply_stays : (g h : ℕ → Graph) (clock : ℕ) → ((s : ℕ) → s ≤ clock → g s ≡ h s) → (r : Result Request BadWord) (p : Reply) → IsPrintedUpTo clock p
+    → IsReplyTo g r p → IsReplyTo h r p
+reply_stays g h clock same (Ok (Put name)) (reply.Ok stamp) up = subst (λ x. IsOk (effect x name)) (same (stamp - 1) (omega (arith, up)))
+reply_stays g h clock same (Ok (Put name)) (reply.Refused at refusal) up = subst (λ x. effect x name ≡ Err refusal) (same at up)
+reply_stays g h clock same (Ok (Ask name)) (reply.Rows at rows) up = subst (λ x. answer x name ≡ answer.Rows rows) (same at up)
+reply_stays g h clock same r p up = λ k. k
 
 -- ---- one more line
 
--- what one more line has to keep
-record Extends (start : Graph) (base : ℕ) (lines : List Line) (line : Line) (clock : ℕ) (after : Graph) (later : ℕ) : Type 0 where
-  rises : clock ≤ later
-  before : (s : ℕ) → s ≤ clock → graph_at start (lines ++ line ∷ []) s ≡ graph_at start lines s
-  now : graph_at start (lines ++ line ∷ []) later ≡ after
-  up_to : IsPrintedUpTo later line.reply
-  differs : IfSome (ok_stamp line.reply) (λ s. clock < s)
-  comes : ComesAfter base (λ s. s ≤ clock) line.reply
-  right : IsReplyTo (graph_at start (lines ++ line ∷ [])) (asked line) line.reply
+there_or_last : {X : Type 0} (xs : List X) (x y : X) (k : ℕ) → slice_get (xs ++ x ∷ []) k ≡ Some y
+    → ((k < length xs) × (slice_get xs k ≡ Some y)) ⊎ ((k ≡ length xs) × (y ≡ x))
+there_or_last [] x y zero e = inr (refl, cc)
+there_or_last [] x y (suc k) e = absurd cc
+there_or_last (z ∷ xs) x y zero e = inl (omega arith, e)
+there_or_last (z ∷ xs) x y (suc k) e = ⊎_elim (λ p. inl (omega (arith, p.0), p.1)) (λ p. inr (omega (arith, p.0), p.1)) (there_or_last xs x y k e)
 
-later_up_to : (clock later : ℕ) (p : Reply) → clock ≤ later → IsPrintedUpTo clock p → IsPrintedUpTo later p
-later_up_to clock later p rises h = by (printed p) h
-  where
-    by : (o : Option ℕ) → IfSome o (λ s. s ≤ clock) → IfSome o (λ s. s ≤ later)
-    by None h = tt
-    by (Some s) h = omega (arith, h, rises)
+module _ (start : Graph) (base : ℕ) (lines : List Line) (graph : Graph) (clock : ℕ) (st : Stands start base lines graph clock) where
+  told_low : (j s : ℕ) → IsPrintedBefore lines j s → s ≤ clock
+  told_low j s q = MatchOption-at_some _ (λ t. t ≤ clock) s q.says
+      (subst (λ (l : Line). IsPrintedUpTo clock l.reply) (get_or_from_slice_get lines q.place q.line q.line q.there) (st.up_to q.place q.line (slice_get_within lines q.place q.line q.there)))
 
-extended : (start : Graph) (base : ℕ) (lines : List Line) (line : Line) (graph : Graph) (clock : ℕ) (after : Graph) (later : ℕ) → Stands start base lines graph clock → Extends start base lines line clock after later → Stands start base (lines ++ line ∷ []) after later
-extended start base lines line graph clock after later st ex = record {
-  now = ex.now;
-  low = omega (arith, st.low, ex.rises);
-  up_to = all_last (λ (l : Line). IsPrintedUpTo later l.reply) lines line
-      (all_weaker (λ (l : Line). IsPrintedUpTo clock l.reply) (λ (l : Line). IsPrintedUpTo later l.reply) lines (λ l k. later_up_to clock later l.reply ex.rises k) st.up_to)
-      ex.up_to;
-  stamps_differ = subst (IsDistinct nat_eq) (sym (ok_last lines line)) (distinct_more (ok_stamps lines) clock (ok_stamp line.reply) st.stamps_differ (oks_low clock lines st.up_to) ex.differs);
-  stamps_above = subst (AllByRecursion (λ s. base < s)) (sym (ok_last lines line)) (above_more (ok_stamps lines) base clock (ok_stamp line.reply) st.low st.stamps_above ex.differs);
-  told_first = told_last base clock lines line st.up_to st.told_first ex.comes;
-  answered = all_last (λ (l : Line). IsReplyTo (graph_at start (lines ++ line ∷ [])) (asked l) l.reply) lines line
-      (all_both (λ (l : Line). IsPrintedUpTo clock l.reply) (λ (l : Line). IsReplyTo (graph_at start lines) (asked l) l.reply) (λ (l : Line). IsReplyTo (graph_at start (lines ++ line ∷ [])) (asked l) l.reply) lines
-      (λ l up k. reply_stays (graph_at start lines) (graph_at start (lines ++ line ∷ [])) clock (λ s q. sym (ex.before s q)) (asked l) l.reply up k)
-      st.up_to st.answered)
-      ex.right;
-}
+  -- a line more leaves the graph up to the clock as it was, and at a later stamp replays its commit
+  graph_before : (line : Line) (s : ℕ) → s ≤ clock → All (IsAbove clock) (commit_of line) → graph_at start (lines ++ line ∷ []) s ≡ graph_at start lines s
+  unfolding graph_at commits_up_to
+  graph_before line s le above =
+      let none = none_up_to (commit_of line) s (recursion_from_All (IsAbove s) _ (All-weaker (IsAbove clock) (IsAbove s) (λ c lt. omega (arith, le, lt)) _ above)) in
+      let same : filter (λ c. nat_le c.stamp s) (flat_map commit_of (lines ++ line ∷ [])) ≡ filter (λ c. nat_le c.stamp s) (flat_map commit_of lines) =
+      rw (flat_map-append, filter-append, append-nil, none, append-nil) refl in
+      ap (λ cs. replayed start (by_stamp cs)) same
 
--- a line that commits nothing
-quiet : (start : Graph) (base : ℕ) (lines : List Line) (line : Line) (graph : Graph) (clock : ℕ) (after : Graph) (later : ℕ) → Stands start base lines graph clock → (after ≡ graph) × (later ≡ clock)
-    → commit_of line ≡ [] → IsPrintedUpTo clock line.reply → ok_stamp line.reply ≡ None → ComesAfter base (λ s. s ≤ clock) line.reply → IsReplyTo (graph_at start lines) (asked line) line.reply
-    → Stands start base (lines ++ line ∷ []) after later
-quiet start base lines line graph clock after later st stays none up ok comes right =
-    let same = λ (s : ℕ). graph_before start lines line s (ap (filter (λ (c : Commit). nat_le c.stamp s)) none) in
-    let stood = extended start base lines line graph clock graph clock st record {
-      rises = omega arith;
-      before = λ s q. same s;
-      now = same clock ∙ st.now;
-      up_to = up;
-      differs = subst (λ o. IfSome o (λ s. clock < s)) (sym ok) tt;
-      comes = comes;
-      right = reply_stays (graph_at start lines) (graph_at start (lines ++ line ∷ [])) clock (λ s q. sym (same s)) (asked line) line.reply up right;
-    } in
-    subst (λ c. Stands start base (lines ++ line ∷ []) after c) (sym stays.1) (subst (λ g. Stands start base (lines ++ line ∷ []) g clock) (sym stays.0) stood)
+  graph_after : (line : Line) (later : ℕ) → clock ≤ later → All (IsAbove clock) (commit_of line) → length (commit_of line) ≤ 1 → IsPrintedUpTo later line.reply
+      → graph_at start (lines ++ line ∷ []) later ≡ replayed graph (commit_of line)
+  unfolding graph_at commits_up_to
+  graph_after line later rises above few up =
+      let cs : List Commit = flat_map commit_of lines in
+      let low = commits_low clock lines st.up_to in
+      let all = All-append (IsUpTo later) cs (commit_of line) (All-weaker (IsUpTo clock) (IsUpTo later) (λ c le. omega (arith, rises, le)) cs low)
+      (commit_low later (asked line) line.reply up) in
+      let joined : filter (λ c. nat_le c.stamp later) (flat_map commit_of (lines ++ line ∷ [])) ≡ cs ++ commit_of line =
+      rw (flat_map-append, append-nil) (all_up_to (cs ++ commit_of line) later (recursion_from_All (IsUpTo later) _ all)) in
+      ap (λ xs. replayed start (by_stamp xs)) joined
+      ∙ replayed_more start cs (commit_of line) clock low above few
+      ∙ ap (λ g. replayed g (commit_of line)) (ap (λ xs. replayed start (by_stamp xs)) (sym (all_up_to cs clock (recursion_from_All (IsUpTo clock) cs low))) ∙ st.now)
 
-kept_is : (graph after : Graph) (name : List ℕ) → effect graph name ≡ Ok after → kept graph (effect graph name) ≡ after
-kept_is graph after name e = ap (kept graph) e
+  -- what was told before an earlier line stays the same
+  same_told : (line : Line) (j s : ℕ) → j ≤ length lines → IsPrintedBefore (lines ++ line ∷ []) j s → IsPrintedBefore lines j s
+  same_told line j s h q = record {
+    place = q.place;
+    line = q.line;
+    before = q.before;
+    there = ⊎_elim (λ p. p.1) (λ p. absurd (omega (arith, p.0, q.before, h))) (there_or_last lines line q.line q.place q.there);
+    says = q.says;
+  }
 
--- a line that commits
-loud : (start : Graph) (base : ℕ) (lines : List Line) (request : List ℕ) (name : List ℕ) (graph : Graph) (clock : ℕ) (after : Graph) → Stands start base lines graph clock
-    → request_of request ≡ Ok (Put name) → effect graph name ≡ Ok after
-    → Stands start base (lines ++ record { request = request; reply = reply.Ok (clock + 1) } ∷ []) after (clock + 1)
-loud start base lines request name graph clock after st is passes =
-    let line : Line = record { request = request; reply = reply.Ok (clock + 1) } in
-    let c : Commit = record { stamp = clock + 1; name = name } in
-    let one : commit_of line ≡ c ∷ [] = ap (λ r. commit_in r (reply.Ok (clock + 1))) is in
-    let later : (s : ℕ) → s ≤ clock → filter (λ c. nat_le c.stamp s) (commit_of line) ≡ [] = λ s q. ap (filter (λ (c : Commit). nat_le c.stamp s)) one ∙ grind (arith, nat_tests, q) in
-    let there : effect (graph_at start lines clock) name ≡ Ok after = ap (λ g. effect g name) st.now ∙ passes in
-    let before = λ (s : ℕ) (q : s ≤ clock). graph_before start lines line s (later s q) in
-    let down : clock + 1 - 1 ≡ clock = omega arith in
-    let below : effect (graph_at start (lines ++ line ∷ []) (clock + 1 - 1)) name ≡ Ok after = ap (λ s. effect (graph_at start (lines ++ line ∷ []) s) name) down ∙ ap (λ g. effect g name) (before clock (omega arith)) ∙ there in
-    extended start base lines line graph clock after (clock + 1) st record {
-      rises = omega arith;
-      before = before;
-      now = graph_after start lines line clock c st.up_to (omega arith) one ∙ kept_is (graph_at start lines clock) after name there;
-      up_to = omega arith;
-      differs = omega arith;
-      comes = λ s q. omega (arith, q);
-      right = subst (λ r. IsReplyTo (graph_at start (lines ++ line ∷ [])) r (reply.Ok (clock + 1))) (sym is) (subst IsOk (sym below) refl);
-    }
+  line_added : (line : Line) (after : Graph) (later : ℕ) → Adds base graph clock (asked line) line.reply after later → Stands start base (lines ++ line ∷ []) after later
+  line_added line after later ad = record {
+    now = graph_after line later ad.rises ad.above ad.few ad.up_to ∙ ad.replays;
+    low = omega (arith, st.low, ad.rises);
+    up_to = All-push (λ (l : Line). IsPrintedUpTo later l.reply) lines line
+        (λ k d h. IfSome_then _ {P = λ t. t ≤ clock} {Q = λ t. t ≤ later} (st.up_to k d h) (λ t le. omega (arith, ad.rises, le))) ad.up_to;
+    stamps_differ = rw stamps_last (distinct_more (ok_stamps lines) clock (ok_stamp line.reply) st.stamps_differ (λ k d h. (st.stamps_within k d h).1) ad.stamp);
+    stamps_within = rw stamps_last (all_more (λ t. (base < t) × (t ≤ later)) (ok_stamps lines) (ok_stamp line.reply)
+        (λ k d h. let within = st.stamps_within k d h in (within.0, omega (arith, ad.rises, within.1))) ad.within);
+    told_first = λ j l e. ⊎_elim
+        (λ p. fewer base (IsPrintedBefore lines j) (IsPrintedBefore (lines ++ line ∷ []) j) (λ s. same_told line j s (omega (arith, p.0))) l.reply (st.told_first j l p.1))
+        (λ p. rw p.1 (fewer base (λ s. s ≤ clock) (IsPrintedBefore (lines ++ line ∷ []) j) (λ s q. told_low j s (same_told line j s (omega (arith, p.0)) q)) line.reply ad.comes))
+        (there_or_last lines line l j e);
+    answered = All-push (λ (l : Line). IsReplyTo (graph_at start (lines ++ line ∷ [])) (asked l) l.reply) lines line
+        (λ k d h. reply_stays (graph_at start lines) (graph_at start (lines ++ line ∷ [])) clock (λ s le. sym (graph_before line s le ad.above)) _ _ (st.up_to k d h) (st.answered k d h))
+        (ad.right (graph_at start (lines ++ line ∷ [])) (graph_before line clock (omega arith) ad.above ∙ st.now));
+  }
 
--- a line that wants memory
-unmoved : (start : Graph) (base : ℕ) (lines : List Line) (request : List ℕ) (r : Result Request BadWord) (graph : Graph) (clock : ℕ) (after : Graph) (later : ℕ) → Stands start base lines graph clock
-    → request_of request ≡ r → commit_in r reply.Memory ≡ [] → IsReplyTo (graph_at start lines) r reply.Memory → (after ≡ graph) × (later ≡ clock)
-    → Stands start base (lines ++ record { request = request; reply = reply.Memory } ∷ []) after later
-unmoved start base lines request r graph clock after later st is none right h =
-    quiet start base lines (record { request = request; reply = reply.Memory }) graph clock after later st h
-    (ap (λ q. commit_in q reply.Memory) is ∙ none) tt refl tt
-    (subst (λ q. IsReplyTo (graph_at start lines) q reply.Memory) (sym is) right)
-
--- one line more, whatever it is
-stepped : (start : Graph) (base : ℕ) (lines : List Line) (request : List ℕ) (r : Result Request BadWord) (p : Reply) (graph : Graph) (clock : ℕ) (after : Graph) (later : ℕ) → Stands start base lines graph clock
-    → request_of request ≡ r → Step graph clock r p after later → Stands start base (lines ++ record { request = request; reply = p } ∷ []) after later
-stepped start base lines request (Ok (Put name)) (reply.Ok stamp) graph clock after later st is h =
-    subst (λ w. Stands start base (lines ++ record { request = request; reply = reply.Ok w } ∷ []) after later) (sym h.1)
-    (subst (λ w. Stands start base (lines ++ record { request = request; reply = reply.Ok (clock + 1) } ∷ []) after w) (sym h.2)
-    (loud start base lines request name graph clock after st is h.0))
-stepped start base lines request (Ok (Put name)) (reply.Refused at refusal) graph clock after later st is h =
-    let right : effect (graph_at start lines at) name ≡ Err refusal = ap (λ s. effect (graph_at start lines s) name) h.1 ∙ ap (λ g. effect g name) st.now ∙ h.0 in
-    quiet start base lines (record { request = request; reply = reply.Refused at refusal }) graph clock after later st h.2
-    (ap (λ q. commit_in q (reply.Refused at refusal)) is) (omega (arith, h.1)) refl (omega (arith, h.1, st.low), λ s q. omega (arith, q, h.1))
-    (subst (λ q. IsReplyTo (graph_at start lines) q (reply.Refused at refusal)) (sym is) right)
-stepped start base lines request (Ok (Ask name)) (reply.Rows at rows) graph clock after later st is h =
-    let right : answer (graph_at start lines at) name ≡ answer.Rows rows = ap (λ s. answer (graph_at start lines s) name) h.1 ∙ ap (λ g. answer g name) st.now ∙ h.0 in
-    quiet start base lines (record { request = request; reply = reply.Rows at rows }) graph clock after later st h.2
-    (ap (λ q. commit_in q (reply.Rows at rows)) is) (omega (arith, h.1)) refl (omega (arith, h.1, st.low), λ s q. omega (arith, q, h.1))
-    (subst (λ q. IsReplyTo (graph_at start lines) q (reply.Rows at rows)) (sym is) right)
-stepped start base lines request (Err word) (reply.Bad printed) graph clock after later st is h =
-    quiet start base lines (record { request = request; reply = reply.Bad printed }) graph clock after later st h.1
-    (ap (λ q. commit_in q (reply.Bad printed)) is) tt refl tt
-    (subst (λ q. IsReplyTo (graph_at start lines) q (reply.Bad printed)) (sym is) h.0)
-stepped start base lines request (Ok (Put name)) reply.Memory graph clock after later st is h = unmoved start base lines request (Ok (Put name)) graph clock after later st is refl tt h
-stepped start base lines request (Ok (Ask name)) reply.Memory graph clock after later st is h = unmoved start base lines request (Ok (Ask name)) graph clock after later st is refl tt h
-stepped start base lines request (Err word) reply.Memory graph clock after later st is h = unmoved start base lines request (Err word) graph clock after later st is refl tt h
-stepped start base lines request r p graph clock after later st is h = absurd h
-
-pub line_served : (start : Graph) (base : ℕ) (lines : List Line) (request : List ℕ) (p : Reply) (graph : Graph) (clock : ℕ) (after : Graph) (later : ℕ) → Stands start base lines graph clock
-    → Step graph clock (request_of request) p after later → Stands start base (lines ++ record { request = request; reply = p } ∷ []) after later
-line_served start base lines request p graph clock after later st h = stepped start base lines request (request_of request) p graph clock after later st refl h
+pub line_served : (start : Graph) (base : ℕ) (lines : List Line) (line : Line) (graph : Graph) (clock : ℕ) (after : Graph) (later : ℕ) → Stands start base lines graph clock
+    → Step graph clock (asked line) line.reply after later → Stands start base (lines ++ line ∷ []) after later
+line_served start base lines line graph clock after later st step = line_added start base lines graph clock st line after later (adds base graph clock after later (asked line) line.reply st.low step)
 
 pub none_served : (start : Graph) (base : ℕ) → Stands start base [] start base
 unfolding graph_at commits_up_to IsDistinct
-none_served start base = record { now = refl; low = omega arith; up_to = tt; stamps_differ = tt; stamps_above = tt; told_first = λ j line e. absurd cc; answered = tt }
+none_served start base = record { now = refl; low = omega arith; up_to = All-nil _; stamps_differ = tt; stamps_within = All-nil _; told_first = λ j line e. absurd cc; answered = All-nil _ }
 
 pub step_clock : (graph : Graph) (clock : ℕ) (r : Result Request BadWord) (p : Reply) (after : Graph) (later : ℕ) → Step graph clock r p after later → later ≤ clock + 1
 step_clock graph clock (Ok (Put name)) (reply.Ok stamp) after later h = omega (arith, h.2)

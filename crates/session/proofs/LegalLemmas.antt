@@ -2,6 +2,7 @@
 use Rattle.std.proofs.Common.{◌≡◌, ℕ, ◌<◌, List, [], ◌∷◌, nat_eq, Some, zero, suc, sym, subst, arith, append-nil}
 use Rattle.std.specs.Prelude.{Contains, slice_get}
 use Rattle.std.specs.List.{AllByRecursion, IsDistinct}
+use Rattle.std.proofs.lemmas.List.Elements.{recursion_from_All}
 use Rattle.request_reader.specs.Graph.{Graph}
 use Rattle.answer_text.specs.Transcript.{lines_of, asked, graph_at, ok_stamps, IsLineAt, IsTold, own}
 use Rattle.answer_text.specs.Legal.{IsReplyTo, IsLegal}
@@ -33,8 +34,9 @@ served_legal start base t graph clock st =
     let all : t.lines ≡ lines_of (t ∷ []) = sym (append-nil t.lines) in
     record {
       stamps_differ = subst (λ ls. IsDistinct nat_eq (ok_stamps ls)) all st.stamps_differ;
-      stamps_above = subst (λ ls. AllByRecursion (λ s. base < s) (ok_stamps ls)) all st.stamps_above;
+      stamps_above = subst (λ ls. AllByRecursion (λ s. base < s) (ok_stamps ls)) all (recursion_from_All (λ s. base < s) _ (λ k d h. (st.stamps_within k d h).0));
       stamps_apart = all_apart (ok_stamps (lines_of (t ∷ [])));
       told_first = λ i j line h. fewer base (IsPrintedBefore t.lines j) (IsTold (t ∷ []) i j) (λ s q. told_before t i j s q) line.reply (st.told_first j line (line_of_only t i j line h));
-      answered = subst (λ ls. AllByRecursion (λ (line : Line). IsReplyTo (graph_at start ls) (asked line) line.reply) ls) all st.answered;
+      answered = subst (λ ls. AllByRecursion (λ (line : Line). IsReplyTo (graph_at start ls) (asked line) line.reply) ls) all
+          (recursion_from_All (λ (line : Line). IsReplyTo (graph_at start t.lines) (asked line) line.reply) _ st.answered);
     }

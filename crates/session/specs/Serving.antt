@@ -1,6 +1,6 @@
 -- What serving lines at a clock keeps true.
 use Rattle.std.specs.Prelude.{◌≡◌, ℕ, ◌+◌, ◌<◌, ◌≤◌, List, slice_get, nat_eq, IfSome, Some, Result, Ok, Err}
-use Rattle.std.specs.List.{AllByRecursion, IsDistinct}
+use Rattle.std.specs.List.{All, IsDistinct}
 use Rattle.request_reader.specs.Graph.{Graph}
 use Rattle.request_reader.specs.Effect.{effect, answer}
 use Rattle.request_reader.specs.declared.answer.Answer.TheVariants as answer
@@ -19,16 +19,19 @@ IsSame graph clock after later = (after ≡ graph) × (later ≡ clock)
 
 -- one request served at a clock: its reply, and the graph and the clock behind it
 abbrev pub Step : Graph → ℕ → Result Request BadWord → Reply → Graph → ℕ → Type 0
-Step graph clock (Ok (Put name)) (reply.Ok stamp) after later = (effect graph name ≡ Ok after) × (stamp ≡ clock + 1) × (later ≡ clock + 1)
-Step graph clock (Ok (Put name)) (reply.Refused at refusal) after later = (effect graph name ≡ Err refusal) × (at ≡ clock) × IsSame graph clock after later
-Step graph clock (Ok (Ask name)) (reply.Rows at rows) after later = (answer graph name ≡ answer.Rows rows) × (at ≡ clock) × IsSame graph clock after later
+Step graph clock (Ok (Put name)) (reply.Ok stamp) after later =
+    (effect graph name ≡ Ok after) × (stamp ≡ clock + 1) × (later ≡ clock + 1)
+Step graph clock (Ok (Put name)) (reply.Refused at refusal) after later =
+    (effect graph name ≡ Err refusal) × (at ≡ clock) × IsSame graph clock after later
+Step graph clock (Ok (Ask name)) (reply.Rows at rows) after later =
+    (answer graph name ≡ answer.Rows rows) × (at ≡ clock) × IsSame graph clock after later
 Step graph clock (Err word) (reply.Bad printed) after later = (printed ≡ word) × IsSame graph clock after later
 Step graph clock request reply.Memory after later = IsSame graph clock after later
 Step graph clock request other after later = ⊥
 
 -- the reply prints no stamp above the clock
 abbrev pub IsPrintedUpTo : ℕ → Reply → Type 0
-IsPrintedUpTo clock r = IfSome (printed r) (λ s. s ≤ clock)
+IsPrintedUpTo clock r = IfSome (printed r) (λ stamp. stamp ≤ clock)
 
 -- one of the first j lines printed the stamp
 pub record IsPrintedBefore (lines : List Line) (j stamp : ℕ) : Type 0 where
@@ -42,8 +45,9 @@ pub record IsPrintedBefore (lines : List Line) (j stamp : ℕ) : Type 0 where
 pub record Stands (start : Graph) (base : ℕ) (lines : List Line) (graph : Graph) (clock : ℕ) : Type 0 where
   pub now : graph_at start lines clock ≡ graph
   pub low : base ≤ clock
-  pub up_to : AllByRecursion (λ line. IsPrintedUpTo clock line.reply) lines
+  pub up_to : All (λ line. IsPrintedUpTo clock line.reply) lines
   pub stamps_differ : IsDistinct nat_eq (ok_stamps lines)
-  pub stamps_above : AllByRecursion (λ stamp. base < stamp) (ok_stamps lines)
-  pub told_first : (j : ℕ) (line : Line) → slice_get lines j ≡ Some line → ComesAfter base (IsPrintedBefore lines j) line.reply
-  pub answered : AllByRecursion (λ line. IsReplyTo (graph_at start lines) (asked line) line.reply) lines
+  pub stamps_within : All (λ stamp. (base < stamp) × (stamp ≤ clock)) (ok_stamps lines)
+  pub told_first : (j : ℕ) (line : Line) → slice_get lines j ≡ Some line
+      → ComesAfter base (IsPrintedBefore lines j) line.reply
+  pub answered : All (λ line. IsReplyTo (graph_at start lines) (asked line) line.reply) lines

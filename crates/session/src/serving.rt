@@ -91,10 +91,10 @@ pub fn serve(
     requests: Vec<Bin>,
 ) -> Result<Transcript, Memory>
     requires { clock.old + length requests.items < STAMP_LIMIT }
-    ensures session { IfOk result (λ t. t.session ≡ number) }
-    ensures requests { IfOk result (λ t. map (λ line. line.request) t.lines ≡ requests.items) }
-    ensures legal { IfOk result (λ t. IsLegal plain.old clock.old (t ∷ []) []) }
-    ensures stands { IfOk result (λ t. Stands plain.old clock.old t.lines plain.new clock.new) }
+    ensures session { IfOk result (λ transcript. transcript.session ≡ number) }
+    ensures requests { IfOk result (λ transcript. map (λ line. line.request) transcript.lines ≡ requests.items) }
+    ensures legal { IfOk result (λ transcript. IsLegal plain.old clock.old (transcript ∷ []) []) }
+    ensures stands { IfOk result (λ transcript. Stands plain.old clock.old transcript.lines plain.new clock.new) }
 {
     let mut lines = Items::from_vec(Vec::with_capacity(alloc, requests.len())?);
     for request in requests {

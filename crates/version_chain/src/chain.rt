@@ -24,9 +24,10 @@ impl Model for Chain {
 
     ghost Value = { Versions };
 
-    ghost view = { λ c. record { versions = reverse c.versions.items; reserved = c.reserved } };
+    ghost view = { λ chain. record { versions = reverse chain.versions.items; reserved = chain.reserved } };
 
-    ghost invariant = { λ c. Falls (reverse c.versions.items) × (c.reserved ≡ true → deque_len c.versions < deque_capacity c.versions) };
+    ghost invariant = { λ chain. Falls (reverse chain.versions.items)
+        × (chain.reserved ≡ true → deque_len chain.versions < deque_capacity chain.versions) };
 }
 
 impl Chain {
@@ -40,12 +41,12 @@ impl Chain {
         }
     }
 
-    /// The newest version at most the stamp `s`; none where there is none. It takes a logarithm in the versions.
-    pub fn at(&self, s: u64) -> Option<(u64, Option<&[u8]>)>
-        ensures { option_map shown result ≡ version_at s self.now.versions }
+    /// The newest version at most `stamp`; none where there is none. It takes a logarithm in the versions.
+    pub fn at(&self, stamp: u64) -> Option<(u64, Option<&[u8]>)>
+        ensures { option_map shown result ≡ version_at stamp self.now.versions }
     {
-        let (stamp, value) = newest_at(&self.versions, s)?;
-        Some((*stamp, value.as_ref().map(Bin::as_slice)))
+        let (written, value) = newest_at(&self.versions, stamp)?;
+        Some((*written, value.as_ref().map(Bin::as_slice)))
     }
 
     /// The stamp of the newest version, and 0 where there is none.
@@ -84,13 +85,13 @@ impl Chain {
         Ok(())
     }
 
-    /// Puts a version at the stamp `w`, above all others, into the reserved place.
-    pub fn push(&mut self, w: u64, value: Option<Bin>)
+    /// Puts a version at `write_stamp`, above all others, into the reserved place.
+    pub fn push(&mut self, write_stamp: u64, value: Option<Bin>)
         requires reserved { self.old.reserved ≡ true }
-        requires above { newest self.old.versions < w }
-        ensures { self.new ≡ record { versions = (w, value) ∷ self.old.versions; reserved = false } }
+        requires above { newest self.old.versions < write_stamp }
+        ensures { self.new ≡ record { versions = (write_stamp, value) ∷ self.old.versions; reserved = false } }
     {
-        self.versions.push_back_reserved((w, value));
+        self.versions.push_back_reserved((write_stamp, value));
         self.reserved = false;
     }
 
@@ -99,7 +100,7 @@ impl Chain {
     #[tactic(auto, using(crate::proofs::ChainLemmas::falls_without_oldest, crate::proofs::ChainLemmas::version_at_cut))]
     pub fn cut(&mut self, floor: u64) -> u64
         ensures cut { self.new ≡ record self.old { versions = cut floor self.old.versions } }
-        ensures kept { (s : ℕ) → floor ≤ s → version_at s self.new.versions ≡ version_at s self.old.versions }
+        ensures kept { (stamp : ℕ) → floor ≤ stamp → version_at stamp self.new.versions ≡ version_at stamp self.old.versions }
         ensures removed { result + length self.new.versions ≡ length self.old.versions }
     {
         let mut removed = 0;
@@ -116,7 +117,8 @@ impl Chain {
 fn is_oldest_obsolete(versions: &VecDeque<(u64, Option<Bin>)>, floor: u64) -> bool
     requires { Falls (reverse versions.now.items) }
     ensures there { OnTrue result (0 < length versions.now.items) }
-    ensures cut { cut floor (reverse versions.now.items) ≡ (if result then cut floor (reverse (drop 1 versions.now.items)) else reverse versions.now.items) }
+    ensures cut { cut floor (reverse versions.now.items)
+        ≡ (if result then cut floor (reverse (drop 1 versions.now.items)) else reverse versions.now.items) }
 {
     match versions.get(1) {
         Some((next, _)) => *next <= floor,
@@ -124,16 +126,16 @@ fn is_oldest_obsolete(versions: &VecDeque<(u64, Option<Bin>)>, floor: u64) -> bo
     }
 }
 
-// The newest version at most the stamp `s`. The newest of all is tried first, since most calls ask for it.
-fn newest_at(versions: &VecDeque<(u64, Option<Bin>)>, s: u64) -> Option<&(u64, Option<Bin>)>
+// The newest version at most `stamp`. The newest of all is tried first, since most calls ask for it.
+fn newest_at(versions: &VecDeque<(u64, Option<Bin>)>, stamp: u64) -> Option<&(u64, Option<Bin>)>
     requires { Falls (reverse versions.now.items) }
-    ensures { option_map (λ v. v.now) result ≡ version_at s (reverse versions.now.items) }
+    ensures { option_map (λ version. version.now) result ≡ version_at stamp (reverse versions.now.items) }
 {
     let newest = versions.back()?;
-    if newest.0 <= s {
+    if newest.0 <= stamp {
         return Some(newest);
     }
-    let count = versions.partition_point(|version| version.0 <= s);
+    let count = versions.partition_point(|version| version.0 <= stamp);
     if count == 0 {
         None
     } else {

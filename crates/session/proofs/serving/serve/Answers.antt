@@ -24,7 +24,7 @@ loop-request-preserved c =
       can = tt;
       ends = tt;
       requests = ap (map (λ (l : Line). l.request)) pushed ∙ map-append (λ (l : Line). l.request) before.lines (line ∷ []) ∙ ap (λ xs. xs ++ request ∷ []) before.invariant.requests;
-      stands = rw pushed (line_served c.args.plain.now c.args.clock.now before.lines request c.serve_line-reply.result before.plain before.clock c.serve_line-reply.new.plain c.serve_line-reply.new.clock before.invariant.stands step);
+      stands = rw pushed (line_served c.args.plain.now c.args.clock.now before.lines line before.plain before.clock c.serve_line-reply.new.plain c.serve_line-reply.new.clock before.invariant.stands step);
       bound = omega (arith, later, before.invariant.bound, length-append before.yielded (request ∷ []));
     }
 
