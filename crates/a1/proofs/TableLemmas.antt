@@ -47,14 +47,6 @@ module _ (o : Outside) (status : ℕ) (run : Run) (rests : IsUntouched o.store) 
   ends_served c (Err (fault.Line line)) serves (why, text, inl said, tells, left) = told (Some c) (cause.Malformed line) (bad_line_text line) (serves, refl, left) (rw (← said.0, ← said.1) tells)
   ends_served c (Err (fault.Line line)) serves (why, text, inr none, tells, left) = told (Some c) cause.Memory [] (refl, left) (rw (← none.0, ← none.1) tells)
 
--- a call that is not given the store leaves it as it was
-pub ends_beside : (c : Option Command) (source sink : Side (List ℕ)) (store : Side (List (List ℕ))) (status : ℕ) (run : Run) → IsUntouched store → EndsWith c (outside source sink no_store) status run → EndsWith c (outside source sink store) status run
-ends_beside c source sink store status run rests h = record {
-  ending = h.ending;
-  is = h.is;
-  ends = record { text = h.ends.text; says = h.ends.says; written = h.ends.written; untouched = rests };
-}
-
 -- ---- from the table to the clauses of the top call
 
 append_none : (known : Option (List ℕ)) → append_known known [] ≡ known

@@ -68,25 +68,6 @@ fn serve_script(alloc: Global, script: Script) -> Result<Items<Transcript>, Memo
     Ok(transcripts)
 }
 
-// The run of these sessions.
-fn run_of(alloc: Global, sessions: Items<Transcript>) -> Run
-    ensures sessions { result.sessions ≡ sessions }
-    ensures base { result.base ≡ OPENING_STAMP }
-    ensures background { result.background ≡ [] }
-{
-    Run {
-        base: OPENING_STAMP,
-        sessions,
-        background: Items::new(alloc),
-        clock: 0,
-        own: 0,
-        objects: 0,
-        versions: 0,
-        pending: 0,
-        regions: Items::new(alloc),
-    }
-}
-
 // Serves the script, and makes its transcript's text.
 fn run_script(alloc: Global, script: Script) -> Result<Served, Memory>
     requires few { request_count script ≤ SCRIPT_LIMIT }
@@ -100,7 +81,7 @@ fn run_script(alloc: Global, script: Script) -> Result<Served, Memory>
     let text = transcript(alloc, sessions.as_slice())?;
     Ok(Served {
         text,
-        run: run_of(alloc, sessions),
+        run: Run::of_sessions(alloc, OPENING_STAMP, sessions),
     })
 }
 

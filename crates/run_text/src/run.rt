@@ -37,13 +37,13 @@ pub struct Run {
 }
 
 impl Run {
-    /// The run of a command that began none.
-    pub fn empty(alloc: Global) -> Run
-        ensures { result ≡ empty_run }
+    /// The run of these sessions from the graph at this stamp on, with no background and no counts.
+    pub fn of_sessions(alloc: Global, base: u64, sessions: Items<Transcript>) -> Run
+        ensures { result ≡ record empty_run { base = base; sessions = sessions } }
     {
         Run {
-            base: 0,
-            sessions: Items::new(alloc),
+            base,
+            sessions,
             background: Items::new(alloc),
             clock: 0,
             own: 0,
@@ -52,5 +52,12 @@ impl Run {
             pending: 0,
             regions: Items::new(alloc),
         }
+    }
+
+    /// The run of a command that began none.
+    pub fn empty(alloc: Global) -> Run
+        ensures { result ≡ empty_run }
+    {
+        Run::of_sessions(alloc, 0, Items::new(alloc))
     }
 }
