@@ -1,6 +1,6 @@
 -- Who and what a conflict blames, and the ranges of stamps.
 use Rattle.farm_node.proofs.Common.{◌≡◌, ℕ, ◌<◌, ◌≤◌, List, [], ◌∷◌, ◌++◌, Option, Some, None, Ok, Err, sym, refl, ap, ◌∙◌, subst, inl, inr, ⊎_elim, arith}
-use Rattle.farm_node.proofs.Common.{cond_both, AllByRecursion, Addr, TxnId, IsAmong, same_addr, newest, cut, Hold, Held, Changed, Entry, Made, Read, Alloc}
+use Rattle.farm_node.proofs.Common.{cond_both, AllByRecursion, Addr, TxnId, IsAmong, same_addr, newest, Hold, Held, Changed, Entry, Made, Read, Alloc}
 use Rattle.farm_node.proofs.Common.{Lock, Check, Bytes, Cell, read_answer, lock_answer, check_answer, NodeState, PinnedBy, Fits, loaded_cells, begun, replay}
 use Rattle.farm_node.proofs.Common.{Lawful, Installed, Story, story_from, untold, story, versions_there, Takes, BlamesHolder, BlamesPut}
 use Rattle.farm_node.specs.Locks.{LocksHold, RangesHold}

@@ -18,7 +18,7 @@ pub use Rattle.a1_base.specs.Lists.{IsAmong}
 pub use Rattle.a1_base.specs.Stamps.{IsStamp}
 pub use Rattle.object_region.specs.Regions.{occupancy_of}
 pub use Rattle.object_region.specs.Occupancy.{width, same_addr, add_region, Occupancy, Rises, IsOccupancy, without_place, addr_order, vacant, with_place}
-pub use Rattle.object_region.specs.Occupancy.{IsBelow, region_count}
+pub use Rattle.object_region.specs.Occupancy.{IsBelow}
 pub use Rattle.version_chain.specs.Versions.{Version, version_at, newest, cut, Falls}
 pub use Rattle.farm_node.specs.declared.hold.Hold.{Hold}
 pub use Rattle.farm_node.specs.declared.entry.Found.{Found}

@@ -1,6 +1,6 @@
 -- What a transaction decides, no other changes between its two stamps.
 use Rattle.farm_node.proofs.Common.{◌≡◌, ◌⊎◌, ℕ, ◌<◌, ◌≤◌, max, true, List, [], ◌∷◌, ◌++◌, Option, Some, None, Ok, sym, refl, ap, ◌∙◌, subst, inl, inr, ⊎_elim}
-use Rattle.farm_node.proofs.Common.{arith, cond-true, and_parts, AllByRecursion, Addr, TxnId, same_addr, version_at, newest, cut, Hold, Entry, Made, Alloc}
+use Rattle.farm_node.proofs.Common.{arith, cond-true, and_parts, AllByRecursion, Addr, TxnId, same_addr, version_at, newest, Hold, Entry, Made, Alloc}
 use Rattle.farm_node.proofs.Common.{Lock, Check, Put, Cell, is_open, locked_by, is_gone, NodeState, PinnedBy, FitsLock, FitsCheck, Fits, looked_at, after}
 use Rattle.farm_node.proofs.Common.{LawfulFrom, replay, Lawful, Story, with_put, story_after, story_from, story_begun, story, versions_of, versions_there}
 use Rattle.farm_node.proofs.Common.{Spares, PutsAt, KeepsLock, Decides, MineDecides}

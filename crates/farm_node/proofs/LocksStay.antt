@@ -1,6 +1,6 @@
 -- What holds of locks and pins through entries of others.
 use Rattle.farm_node.proofs.Common.{◌≡◌, ◌⊎◌, ℕ, ◌<◌, ◌≤◌, ◌==◌, max, List, [], ◌∷◌, ◌++◌, Option, Some, None, Ok, sym, refl, ap, ◌∙◌, subst, ⊎_elim, arith}
-use Rattle.farm_node.proofs.Common.{cond-false, and_parts, ne_eqb, both_ways, AllByRecursion, Addr, TxnId, newest, cut, Hold, Entry, Made, Open, Shut, Read}
+use Rattle.farm_node.proofs.Common.{cond-false, and_parts, ne_eqb, both_ways, AllByRecursion, Addr, TxnId, newest, Hold, Entry, Made, Open, Shut, Read}
 use Rattle.farm_node.proofs.Common.{Lock, Check, Cell, is_open, is_gone, NodeState, after, begun, replay_from, replay, Lawful, Story, story_from, story}
 use Rattle.farm_node.proofs.Common.{IsOther}
 use Rattle.farm_node.proofs.Steps.{Keeps, keeps_all}

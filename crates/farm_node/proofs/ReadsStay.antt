@@ -1,6 +1,6 @@
 -- What is read stays so, and pins keep what they show.
 use Rattle.farm_node.proofs.Common.{◌≡◌, ℕ, ◌≤◌, List, ◌∷◌, ◌++◌, Option, Some, None, Ok, sym, refl, ap, ◌∙◌, subst, arith, cond_both, Addr, TxnId, same_addr}
-use Rattle.farm_node.proofs.Common.{Version, version_at, cut, Found, Placed, Entry, Read, Alloc, Bytes, Cell, found_of, found_at, read_answer, raised_to}
+use Rattle.farm_node.proofs.Common.{Version, version_at, Found, Placed, Entry, Read, Alloc, Bytes, Cell, found_of, found_at, read_answer, raised_to}
 use Rattle.farm_node.proofs.Common.{past_raised, made_by, NodeState, set_cell, looked_at, after, LawfulFrom, replay, Lawful, gives, Installed, Story}
 use Rattle.farm_node.proofs.Common.{with_given, story_after, story_from, story, versions_of, stamped_bytes, value_at, versions_there, ReadsHold, PinsHold}
 use Rattle.farm_node.proofs.Sound.{Sound, sound, sound_end, pinned}
