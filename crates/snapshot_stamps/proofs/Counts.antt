@@ -1,5 +1,6 @@
 -- How often a number stands in a list, and the lanes.
-use Rattle.std.proofs.Common.{eqb, ◌==◌, ◌≡◌, ◌≢◌, ℕ, zero, suc, ◌+◌, ◌<◌, ◌≤◌, cond, Bool, List, [], ◌∷◌, ◌++◌, length, refl, ap, ◌∙◌, sym, arith, eq-eqb, ne_eqb}
+use Rattle.std.proofs.Common.{◌==◌, ◌≡◌, ◌≢◌, ℕ, zero, suc, ◌+◌, ◌<◌, ◌≤◌, cond, List, [], ◌∷◌, ◌++◌, length, refl, ap, ◌∙◌, sym, arith, eq-eqb, ne_eqb}
+use Rattle.std.proofs.lemmas.Bool.{cond-true, cond-false}
 use Rattle.std.proofs.lemmas.Bool.Decides.{nat_tests}
 use Rattle.std.proofs.lemmas.List.Sums.{sum_by-append}
 use Rattle.a1_base.proofs.Sums.{sum_one}
@@ -11,14 +12,11 @@ use Rattle.snapshot_stamps.specs.Clock.{times, once_between}
 pub times_append : (x : ℕ) (xs ys : List ℕ) → times x (xs ++ ys) ≡ times x xs + times x ys
 times_append x = sum_by-append (λ y. cond (y == x) 1 0)
 
-times_one : (x y : ℕ) → times x (y ∷ []) ≡ cond (eqb y x) 1 0
-times_one x = sum_one (λ y. cond (y == x) 1 0)
-
 times_here : (x : ℕ) → times x (x ∷ []) ≡ 1
-times_here x = times_one x x ∙ ap (λ (b : Bool). cond b 1 0) (eq-eqb x x refl)
+times_here x = sum_one (λ y. cond (y == x) 1 0) x ∙ cond-true _ _ _ (eq-eqb x x refl)
 
 times_else : (x y : ℕ) → y ≢ x → times x (y ∷ []) ≡ 0
-times_else x y ne = times_one x y ∙ ap (λ (b : Bool). cond b 1 0) (ne_eqb y x ne)
+times_else x y ne = sum_one (λ y. cond (y == x) 1 0) y ∙ cond-false _ _ _ (ne_eqb y x ne)
 
 between_here : (low high : ℕ) → low ≤ high → once_between low (high + 1) (high + 1) ≡ once_between low high (high + 1) + 1
 between_here low high le = grind (arith, nat_tests)

@@ -1,6 +1,6 @@
 -- Each step on the clock keeps its rule.
-use Rattle.std.proofs.Common.{sum_by, ◌≡◌, ℕ, zero, suc, ◌+◌, ◌%◌, ◌^◌, ◌<◌, ◌≤◌, min, List, [], ◌∷◌, ◌++◌, length, length-append, get_or, set, sym, refl, ap, ◌∙◌, subst, arith}
-use mathlib.Core.Option.{some, some-injective, some-ne-none}
+use Rattle.std.proofs.Common.{sum_by, ◌≡◌, ℕ, ◌+◌, ◌%◌, ◌^◌, ◌<◌, ◌≤◌, min, List, [], ◌∷◌, ◌++◌, length, length-append, get_or, set, sym, refl, ap, ◌∙◌, subst, arith}
+use mathlib.Core.Option.{some}
 use mathlib.Core.Logic.{dite}
 use native.Mathlib.Decide.{dec_lt}
 use lib.ListN.{get_elem?}
@@ -12,7 +12,8 @@ use Rattle.snapshot_stamps.specs.Watched.{lanes_from, newcomer, knowing, having_
 use Rattle.a1_base.specs.declared.limits.TheConstants.{LAST_STAMP}
 use Rattle.snapshot_stamps.specs.Plays.{LoadsClock, Raises}
 use Rattle.snapshot_stamps.specs.Clock.{times, once_between, WatchFits, Clock}
-use Rattle.snapshot_stamps.proofs.Sums.{sum_same, each_set, each_end}
+use Rattle.a1_base.proofs.Views.{each_set, each_end, each_alone}
+use Rattle.snapshot_stamps.proofs.Sums.{sum_same}
 use Rattle.snapshot_stamps.proofs.Counts.{times_append, between_next, no_between, lanes_length, lanes_times}
 
 abbrev pub Mine : Type 0
@@ -63,7 +64,15 @@ module _ (lanes from : ℕ) where
             laned = λ x. sum_same (λ (z : Watch). times x z.lanes) s.views id v w at (ap (λ (z : List ℕ). times x z) laned) ∙ k.laned x;
             bounded = omega arith;
             fits = each_set (WatchFits from (k.clock + more)) s.views id w
-                (λ j u ne e. let o = k.fits j u e in record { known = (let r = o.known in omega arith); within = o.within; floor = o.floor; over_lanes = o.over_lanes; over_known = o.over_known; no_lane = o.no_lane; rests = o.rests })
+                (λ j u ne e. let o = k.fits j u e in record {
+                  known = (let r = o.known in omega arith);
+                  within = o.within;
+                  floor = o.floor;
+                  over_lanes = o.over_lanes;
+                  over_known = o.over_known;
+                  no_lane = o.no_lane;
+                  rests = o.rests;
+                })
                 fit;
           }
 
@@ -166,6 +175,21 @@ module _ (lanes from : ℕ) where
         (((omega arith, (λ lt. absurd (ge lt)), (λ _. refl)), (mine.within, omega arith, omega arith)), refl),
       ))
 
+  -- what the rule says of one that has made no step
+  abbrev fresh : ℕ → ℕ → List ℕ → Watch
+  fresh known floor lanes = record (newcomer known lanes) { floor = floor }
+
+  fresh_fits : (clock known floor : ℕ) (lanes : List ℕ) → known ≤ clock → known ≤ LAST_STAMP → floor ≤ from → WatchFits from clock (fresh known floor lanes)
+  fresh_fits clock known floor lanes low within bound = record {
+    known = low;
+    within = within;
+    floor = bound;
+    over_lanes = omega arith;
+    over_known = λ some_over. absurd (omega arith);
+    no_lane = λ none. (refl, refl);
+    rests = (refl, refl, refl);
+  }
+
   -- one view is cut in two, and what counts is shared out
   module _ (id : ℕ) (v left right : Watch) where
     record Shares : Type 0 where
@@ -199,7 +223,7 @@ module _ (lanes from : ℕ) where
   pub notes : (id : ℕ) (v : Watch) → Splits Kept id v v (noted v)
   notes id v = cuts id v v (noted v)
       record { additions = omega arith; drawn = λ x. omega arith; lanes_out = omega arith; laned = λ x. omega arith; over = omega arith }
-      (λ clock f. (f, record { known = f.known; within = f.within; floor = f.floor; over_lanes = omega arith; over_known = λ some_over. absurd (omega arith); no_lane = λ none. (refl, refl); rests = (refl, refl, refl) }))
+      (λ clock f. (f, fresh_fits clock _ _ _ f.known f.within f.floor))
 
   newcomers_cut : (id : ℕ) (l : List ℕ) → 0 < length l → let v = newcomer from l in Splits Kept id v (first_lane v) (other_lanes v)
   newcomers_cut id [] some_lane = absurd (omega arith)
@@ -207,10 +231,7 @@ module _ (lanes from : ℕ) where
       let v : Watch = newcomer from (k ∷ ks) in
       cuts id v (first_lane v) (other_lanes v)
       record { additions = refl; drawn = λ x. refl; lanes_out = omega arith; laned = λ x. sym (times_append x (k ∷ []) ks); over = refl }
-      (λ clock f.
-      let fit : (l : List ℕ) → WatchFits from clock (newcomer from l)
-      = λ l. record { known = f.known; within = f.within; floor = f.floor; over_lanes = omega arith; over_known = λ some_over. absurd (omega arith); no_lane = λ none. (refl, refl); rests = (refl, refl, refl) } in
-      (fit (k ∷ []), fit ks))
+      (λ clock f. (fresh_fits clock _ _ _ f.known f.within f.floor, fresh_fits clock _ _ _ f.known f.within f.floor))
 
   -- of lanes that have made no step the first is kept
   pub lanes_cut : (id : ℕ) (me : Mine) → me ≡ (newcomer from me.0.lanes, []) → 0 < length me.0.lanes → Splits Kept id me.0 (first_lane me.0) (other_lanes me.0)
@@ -258,12 +279,8 @@ module _ (lanes from : ℕ) where
                   ((let x' = x.0 in let z' = z.0 in omega arith), ap (λ (q : List ℕ). q ++ w.drawn) x.1 ∙ z.1);
               rests = a.rests;
             } j u e)
-            record { known = omega arith; within = omega arith; floor = omega arith; over_lanes = omega arith; over_known = λ some_over. absurd (omega arith); no_lane = λ none. (refl, refl); rests = (refl, refl, refl) };
+            (fresh_fits k.clock _ _ _ (omega arith) (omega arith) (omega arith));
       }
-
-  alone : (P : Watch → Type 0) (v : Watch) → P v → (i : ℕ) (w : Watch) → get_elem? (v ∷ []) i ≡ some w → P w
-  alone P v p zero w e = subst P (some-injective v w e) p
-  alone P v p (suc i) w e = absurd (some-ne-none w (sym e))
 
   pub starts : lanes < 2 ^ 32 → from ≤ LAST_STAMP → Kept (opening (from ∷ []) [] (newcomer from (lanes_from 1 lanes)))
   starts few begun =
@@ -278,5 +295,5 @@ module _ (lanes from : ℕ) where
         lanes_out = omega arith;
         laned = λ x. let t = lanes_times 0 lanes x in let e : once_between 0 (0 + lanes) x ≡ once_between 0 lanes x = ap (λ (z : ℕ). once_between 0 z x) (omega arith) in omega arith;
         bounded = omega arith;
-        fits = alone (WatchFits from from) (newcomer from (lanes_from 1 lanes)) record { known = omega arith; within = begun; floor = omega arith; over_lanes = omega arith; over_known = λ some_over. absurd (omega arith); no_lane = λ none. (refl, refl); rests = (refl, refl, refl) };
+        fits = each_alone (WatchFits from from) (newcomer from (lanes_from 1 lanes)) (fresh_fits from _ _ _ (omega arith) begun (omega arith));
       }

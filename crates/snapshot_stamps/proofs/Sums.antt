@@ -1,8 +1,7 @@
--- Sums over the views, and what holds of each.
-use Rattle.std.proofs.Common.{sum_by, ◌≡◌, ◌≢◌, ℕ, zero, suc, List, [], ◌∷◌, ◌++◌, set, sym, refl, ap, subst, ⊎_elim, arith}
+-- Sums over the views.
+use Rattle.std.proofs.Common.{sum_by, ◌≡◌, ℕ, zero, suc, List, [], ◌∷◌, set, sym, refl, ap, arith}
 use mathlib.Core.Option.{some, some-injective, some-ne-none}
 use lib.ListN.{get_elem?}
-use Rattle.atomic_table.proofs.Lists.{at_set, at_snoc}
 use Rattle.std.proofs.lemmas.List.Sums.{sum_by-cons}
 use Rattle.a1_base.proofs.Sums.{sum_set, sum_has}
 
@@ -37,12 +36,3 @@ module _ {A : Type 0} (f g : A → ℕ) where
       let here = h zero x refl (omega arith) in
       let r = sum_only xs i v (λ i v e. h (suc i) v e) e (omega arith) in
       omega arith
-
-module _ {A : Type 0} (P : A → Type 0) (views : List A) where
-  pub each_set : (id : ℕ) (w : A) → ((j : ℕ) (u : A) → j ≢ id → get_elem? views j ≡ some u → P u) → P w
-      → (j : ℕ) (u : A) → get_elem? (set views id w) j ≡ some u → P u
-  each_set id w others mine j u e = ⊎_elim (λ t. subst P t.1 mine) (λ t. others j u t.0 t.1) (at_set views id j w u e)
-
-  pub each_end : (w : A) → ((j : ℕ) (u : A) → get_elem? views j ≡ some u → P u) → P w
-      → (j : ℕ) (u : A) → get_elem? (views ++ w ∷ []) j ≡ some u → P u
-  each_end w others mine j u e = ⊎_elim (λ t. others j u t) (λ t. subst P t mine) (at_snoc views w u j e)

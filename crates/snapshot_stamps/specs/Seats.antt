@@ -30,11 +30,14 @@ IsNoteOf stamps note = note.seat.table_id ≡ stamps.table.shared.table_id
 
 -- one seat for each lane, each knowing where the clock began
 abbrev pub AreSeatsOf : Stamps → List StampSeat → Type 0
-AreSeatsOf stamps seats = All (IsSeatOf stamps) seats × (map watch seats ≡ map (λ k. newcomer (began_at stamps) (k ∷ [])) (lanes_from 1 (lane_count stamps)))
+AreSeatsOf stamps seats =
+    All (IsSeatOf stamps) seats
+    × (map watch seats ≡ map (λ lane. newcomer (began_at stamps) (lane ∷ [])) (lanes_from 1 (lane_count stamps)))
 
 -- all lanes are in the hands of these seats
 abbrev pub HaveAllLanes : Stamps → List StampSeat → Type 0
-HaveAllLanes stamps seats = All (IsSeatOf stamps) seats × (sum_by (λ (s : StampSeat). length (watch s).lanes) seats ≡ lane_count stamps)
+HaveAllLanes stamps seats =
+    All (IsSeatOf stamps) seats × (sum_by (λ (s : StampSeat). length (watch s).lanes) seats ≡ lane_count stamps)
 
 -- The answer at the end: where the clock began plus all additions of these seats, at most the last stamp. It is at least what each
 -- knew, and each stamp above the beginning and at most the answer was drawn by one of these seats, once, and no other stamp was

@@ -11,7 +11,17 @@ lanes_from first (suc n) = first ∷ lanes_from (suc first) n
 
 -- a seat that knows a stamp, and has made no step
 abbrev pub newcomer : ℕ → List ℕ → Watch
-newcomer from lanes = record { known = from; drawn = []; additions = 0; lanes = lanes; over = 0; mark = Empty; loaded = None; floor = from; scan = None }
+newcomer from lanes = record {
+  known = from;
+  drawn = [];
+  additions = 0;
+  lanes = lanes;
+  over = 0;
+  mark = Empty;
+  loaded = None;
+  floor = from;
+  scan = None;
+}
 
 abbrev pub knowing : ℕ → Watch → Watch
 knowing n v = record v { known = n }
@@ -35,7 +45,14 @@ other_lanes v = record (noted v) { lanes = others v.lanes } where
 
 -- two seats in one
 abbrev pub joined : Watch → Watch → Watch
-joined v w = record v { known = max v.known w.known; drawn = v.drawn ++ w.drawn; additions = v.additions + w.additions; lanes = v.lanes ++ w.lanes; over = v.over + w.over; floor = max v.floor w.floor }
+joined v w = record v {
+  known = max v.known w.known;
+  drawn = v.drawn ++ w.drawn;
+  additions = v.additions + w.additions;
+  lanes = v.lanes ++ w.lanes;
+  over = v.over + w.over;
+  floor = max v.floor w.floor;
+}
 
 -- what is left of a seat that another took in
 abbrev pub spent : Watch

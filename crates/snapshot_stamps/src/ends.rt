@@ -19,9 +19,9 @@ impl Stamps {
     pub fn new(alloc: Global, lanes: u32, from: u64) -> Result<(Stamps, Vec<StampSeat>), Memory>
         requires lanes { 0 < lanes }
         requires from { (0 < from) × (from ≤ LAST_STAMP) }
-        ensures clock { IfOk result (λ r. (lane_count r.0 ≡ lanes) × (began_at r.0 ≡ from)) }
-        ensures seats { IfOk result (λ r. AreSeatsOf r.0 r.1.items) }
-        ensures lanes { IfOk result (λ r. HaveAllLanes r.0 r.1.items) }
+        ensures clock { IfOk result (λ made. (lane_count made.0 ≡ lanes) × (began_at made.0 ≡ from)) }
+        ensures seats { IfOk result (λ made. AreSeatsOf made.0 made.1.items) }
+        ensures lanes { IfOk result (λ made. HaveAllLanes made.0 made.1.items) }
     {
         let (table, rest) = Table::of_words(alloc, &[from], &Opened { lanes, from })?;
         let stamps = Stamps { table };
@@ -68,16 +68,16 @@ impl Stamps {
 
     /// One seat in place of two: it has the lanes of both, knows what either knew, and has drawn what they drew. For the
     /// end of a clock. It waits for nothing, and takes no memory.
-    pub fn unite(&self, a: StampSeat, b: StampSeat) -> StampSeat
-        requires seats { IsSeatOf self.now a × IsSeatOf self.now b }
+    pub fn unite(&self, first: StampSeat, second: StampSeat) -> StampSeat
+        requires seats { IsSeatOf self.now first × IsSeatOf self.now second }
         ensures seat { IsSeatOf self.now result }
-        ensures learned { Learned (joined (watch a) (watch b)) (watch result) }
+        ensures learned { Learned (joined (watch first) (watch second)) (watch result) }
     {
-        let StampSeat { mut seat, draws } = a;
+        let StampSeat { mut seat, draws } = first;
         let StampSeat {
             seat: other,
             draws: others,
-        } = b;
+        } = second;
         self.table.shared.join_seat::<SeatsJoined>(&mut seat, other);
         self.load(&mut seat);
         StampSeat {

@@ -52,26 +52,26 @@ impl Stamps {
     pub fn now(&self, seat: &mut StampSeat) -> u64
         requires { IsSeatOf self.now seat.old }
         ensures seat { IsSeatOf self.now seat.new }
-        ensures clock { (n : ℕ) × Sees n (watch seat.old) (watch seat.new) × (result ≡ (watch seat.new).known) }
+        ensures clock { (clock : ℕ) × Sees clock (watch seat.old) (watch seat.new) × (result ≡ (watch seat.new).known) }
         ensures learned { Learned (watch seat.old) (watch seat.new) }
         ensures known { ((watch seat.old).known ≤ result) × (result ≤ LAST_STAMP) }
     {
         self.load(&mut seat.seat).min(LAST_STAMP)
     }
 
-    /// Waits until the clock is at least the stamp `m`, at most 2^62 - 1, and the seat knows it.
+    /// Waits until the clock is at least the stamp `mark`, at most 2^62 - 1, and the seat knows it.
     ///
     /// This call alone may wait: for other seats to draw, for ever if none does. It takes no memory.
-    pub fn reach<R: Wait>(&self, rt: &R, seat: &mut StampSeat, m: u64)
+    pub fn reach<R: Wait>(&self, rt: &R, seat: &mut StampSeat, mark: u64)
         requires seat { IsSeatOf self.now seat.old }
-        requires stamp { m ≤ LAST_STAMP }
+        requires stamp { mark ≤ LAST_STAMP }
         ensures seat { IsSeatOf self.now seat.new }
         ensures learned { Learned (watch seat.old) (watch seat.new) }
-        ensures reached { m ≤ (watch seat.new).known }
+        ensures reached { mark ≤ (watch seat.new).known }
     {
         let backoff = Backoff::new();
         for _ in rt.forever() {
-            if self.now(seat) >= m {
+            if self.now(seat) >= mark {
                 return;
             }
             backoff.snooze();
@@ -87,7 +87,8 @@ impl Stamps {
     pub fn draw(&self, seat: &mut StampSeat) -> Option<u64>
         requires { IsSeatOf self.now seat.old }
         ensures seat { IsSeatOf self.now seat.new }
-        ensures some { IfSome result (λ w. ((watch seat.old).known < w) × (w ≤ LAST_STAMP) × (watch seat.new ≡ having_drawn w (watch seat.old))) }
+        ensures some { IfSome result (λ stamp. ((watch seat.old).known < stamp) × (stamp ≤ LAST_STAMP)
+            × (watch seat.new ≡ having_drawn stamp (watch seat.old))) }
         ensures none { IfNone result ((watch seat.new).known ≡ LAST_STAMP) }
         ensures drawn { (watch seat.new).drawn ≡ (watch seat.old).drawn ++ option_to_list result }
         ensures lanes { (watch seat.new).lanes ≡ (watch seat.old).lanes }

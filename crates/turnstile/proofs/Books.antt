@@ -1,23 +1,22 @@
 -- Writers and their numbers, for the tests.
-use Rattle.std.proofs.Common.{◌≡◌, ◌≢◌, ℕ, zero, suc, ◌-◌, ◌<◌, ◌≤◌, Bool, cond, List, [], ◌∷◌, ◌++◌, sym, refl, ap, ◌∙◌, subst, inl, inr, arith, eq-eqb, ne_eqb}
+use Rattle.std.proofs.Common.{◌≡◌, ◌≢◌, ℕ, zero, suc, ◌-◌, ◌<◌, ◌≤◌, List, [], ◌∷◌, ◌++◌, sym, refl, ap, ◌∙◌, subst, inl, inr, arith, eq-eqb, ne_eqb}
 use Rattle.turnstile.specs.Entries.{without, up_to, HasAll}
 use Rattle.a1_base.specs.Lists.{IsAmong, entries_of}
 use Rattle.turnstile.specs.Book.{Mark, writer, HaveWritten, HasEach, marks}
 use mathlib.Core.Logic.{dite}
 use native.Mathlib.Decide.{dec_le}
+use Rattle.std.proofs.lemmas.Bool.{cond-true, cond-false}
 use Rattle.turnstile.proofs.Histories.{up_to_has}
 
 -- what is not among the numbers need not be taken out
 without_none : (k : ℕ) (ns : List ℕ) → (IsAmong k ns → ⊥) → without k ns ≡ ns
 without_none k [] not = refl
 without_none k (x ∷ xs) not =
-    subst (λ (b : Bool). cond b (without k xs) (x ∷ without k xs) ≡ x ∷ xs) (sym (ne_eqb x k (λ (e : x ≡ k). not (inl e))))
-    (ap (λ (z : List ℕ). x ∷ z) (without_none k xs (λ h. not (inr h))))
+    cond-false _ _ _ (ne_eqb x k (λ (e : x ≡ k). not (inl e))) ∙ ap (λ (z : List ℕ). x ∷ z) (without_none k xs (λ h. not (inr h)))
 
 without_last : (n : ℕ) → without (suc n) (up_to (suc n)) ≡ up_to n
 without_last n =
-    subst (λ (b : Bool). cond b (without (suc n) (up_to n)) (suc n ∷ without (suc n) (up_to n)) ≡ up_to n) (sym (eq-eqb (suc n) (suc n) refl))
-    (without_none (suc n) (up_to n) (λ h. let r = (up_to_has (suc n) n h).1 in omega arith))
+    cond-true _ _ _ (eq-eqb (suc n) (suc n) refl) ∙ without_none (suc n) (up_to n) (λ h. let r = (up_to_has (suc n) n h).1 in omega arith)
 
 -- the last writer apart
 pub parted : (n : ℕ) (numbers left : List ℕ) → 1 < n → numbers ≡ up_to n → left ≡ without n numbers → left ≡ up_to (n - 1)
@@ -42,7 +41,7 @@ all_up_to n numbers is k pos le = subst (IsAmong k) (sym is) (up_to_all k n pos 
 
 -- the first entry is of no writer
 skip_first : (k : ℕ) (items : List Mark) → 0 < k → entries_of writer k ((0, 0) ∷ items) ≡ entries_of writer k items
-skip_first k items pos = ap (λ (b : Bool). cond b ((0, 0) ∷ entries_of writer k items) (entries_of writer k items)) (ne_eqb 0 k (λ (e : 0 ≡ k). omega arith))
+skip_first k items pos = cond-false _ _ _ (ne_eqb 0 k (λ (e : 0 ≡ k). omega arith))
 
 -- the marks of a book that has been closed
 pub closed : (writers times : ℕ) (items seen before log : List Mark) → before ≡ (0, 0) ∷ [] → log ≡ (0, 0) ∷ items

@@ -11,7 +11,8 @@ use Rattle.turnstile.specs.declared.view.Stage.TheVariants.{Inside}
 use Rattle.turnstile.specs.Turns.{word_of, HasTicket, tickets, ViewFits, Kept, having_added}
 use Rattle.turnstile.specs.Entries.{AllOf}
 use Rattle.a1_base.specs.Lists.{IsAmong, BeginsWith, entries_of}
-use Rattle.turnstile.proofs.Lists.{each_set, apart_set, here_set}
+use Rattle.a1_base.proofs.Views.{each_set}
+use Rattle.turnstile.proofs.Lists.{apart_set, here_set}
 use Rattle.turnstile.proofs.Histories.{begins_none, of_more, begins_itself, begins_more}
 
 module _ {T E : Type 0} (stands : T → List E → Type 0) (number : E → ℕ) (passes : ℕ) (start : E) where

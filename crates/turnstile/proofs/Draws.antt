@@ -7,7 +7,8 @@ use Rattle.turnstile.specs.declared.view.View.{View}
 use Rattle.turnstile.specs.declared.view.Stage.TheVariants.{Idle, Waits, Inside}
 use Rattle.turnstile.specs.Turns.{word_of, tickets, view, ViewFits, Kept, Drawn}
 use Rattle.turnstile.proofs.Histories.{begins_none}
-use Rattle.turnstile.proofs.Lists.{each_set, apart_set, nobody_set, somebody_set}
+use Rattle.a1_base.proofs.Views.{each_set}
+use Rattle.turnstile.proofs.Lists.{apart_set, nobody_set, somebody_set}
 
 pub next_word : (d : ℕ) → (word_of d + 1) % 2 ^ 64 ≡ word_of (d + 1)
 next_word d = omega arith

@@ -1,8 +1,7 @@
 -- Entries by number, and lists that begin others.
-use Rattle.std.proofs.Common.{◌≡◌, ◌≢◌, ◌⊎◌, ℕ, zero, suc, ◌+◌, ◌<◌, ◌≤◌, ◌==◌, Bool, true, false, cond, eqb, List, [], ◌∷◌, ◌++◌, length, sym, refl, ap, ◌∙◌, subst, inl, inr, ⊎_elim, arith, eq-eqb, ne_eqb, append_assoc, append-nil}
+use Rattle.std.proofs.Common.{◌≡◌, ◌≢◌, ◌⊎◌, ℕ, zero, suc, ◌+◌, ◌<◌, ◌≤◌, ◌==◌, List, [], ◌∷◌, ◌++◌, length, sym, refl, ap, ◌∙◌, subst, inl, inr, ⊎_elim, arith, append_assoc, append-nil}
 use Rattle.std.proofs.lemmas.List.Elements.{filter-append}
-use mathlib.Core.Logic.{dite}
-use native.Mathlib.Decide.{ℕ_discrete}
+use Rattle.std.proofs.lemmas.Bool.{cond_both, eqb-true, eqb-false}
 use Rattle.turnstile.specs.Entries.{AllOf, without, up_to}
 use Rattle.a1_base.specs.Lists.{IsAmong, BeginsWith, entries_of}
 
@@ -13,10 +12,8 @@ module _ {E : Type 0} (number : E → ℕ) where
   pub of_none : (k : ℕ) (numbers : List ℕ) (es : List E) → AllOf number numbers es → (IsAmong k numbers → ⊥) → entries_of number k es ≡ []
   of_none k numbers [] all not = refl
   of_none k numbers (e ∷ es) all not =
-      let r = of_none k numbers es all.1 not in
-      dite (ℕ_discrete (number e) k)
-      (λ (is : number e ≡ k). absurd (not (subst (λ (z : ℕ). IsAmong z numbers) is all.0)))
-      (λ (ne : number e ≢ k). subst (λ (b : Bool). cond b (e ∷ entries_of number k es) (entries_of number k es) ≡ []) (sym (ne_eqb (number e) k ne)) r)
+      cond_both (number e == k) (e ∷ entries_of number k es) (entries_of number k es) (λ z. z ≡ [])
+      (λ is. absurd (not (subst (λ z. IsAmong z numbers) (eqb-true (number e) k is) all.0))) (λ _. of_none k numbers es all.1 not)
 
   -- entries of other numbers leave those of k
   pub of_more : (k : ℕ) (numbers : List ℕ) (xs es : List E) → AllOf number numbers es → (IsAmong k numbers → ⊥) → entries_of number k (xs ++ es) ≡ entries_of number k xs
@@ -34,42 +31,26 @@ module _ {E : Type 0} where
 
 -- numbers
 pub without_else : (k j : ℕ) (ns : List ℕ) → IsAmong j (without k ns) → IsAmong j ns × (j ≢ k)
-without_else k j [] h = absurd h
-without_else k j (x ∷ xs) h = dite (ℕ_discrete x k)
-    (λ (is : x ≡ k).
-    let r = without_else k j xs (subst (λ (b : Bool). IsAmong j (cond b (without k xs) (x ∷ without k xs))) (eq-eqb x k is) h) in
-    (inr r.0, r.1))
-    (λ (ne : x ≢ k).
-    ⊎_elim
-    (λ (e : x ≡ j). (inl e, λ (z : j ≡ k). ne (e ∙ z)))
-    (λ h'. let r = without_else k j xs h' in (inr r.0, r.1))
-    (subst (λ (b : Bool). IsAmong j (cond b (without k xs) (x ∷ without k xs))) (ne_eqb x k ne) h))
+without_else k j [] = λ h. absurd h
+without_else k j (x ∷ xs) = cond_both (x == k) (without k xs) (x ∷ without k xs) (λ z. IsAmong j z → IsAmong j (x ∷ xs) × (j ≢ k))
+    (λ _ h. let r = without_else k j xs h in (inr r.0, r.1))
+    (λ ne. ⊎_elim (λ e. (inl e, λ z. eqb-false x k ne (e ∙ z))) (λ h. let r = without_else k j xs h in (inr r.0, r.1)))
 
 pub without_has : (k j : ℕ) (ns : List ℕ) → IsAmong j ns → j ≢ k → IsAmong j (without k ns)
 without_has k j [] h ne = absurd h
-without_has k j (x ∷ xs) h ne = dite (ℕ_discrete x k)
-    (λ (is : x ≡ k).
-    subst (λ (b : Bool). IsAmong j (cond b (without k xs) (x ∷ without k xs))) (sym (eq-eqb x k is))
-    (⊎_elim (λ (e : x ≡ j). absurd (ne (sym e ∙ is))) (λ h'. without_has k j xs h' ne) h))
-    (λ (not : x ≢ k).
-    subst (λ (b : Bool). IsAmong j (cond b (without k xs) (x ∷ without k xs))) (sym (ne_eqb x k not))
-    (⊎_elim (λ (e : x ≡ j). inl e) (λ h'. inr (without_has k j xs h' ne)) h))
+without_has k j (x ∷ xs) h ne = cond_both (x == k) (without k xs) (x ∷ without k xs) (IsAmong j)
+    (λ is. ⊎_elim (λ e. absurd (ne (sym e ∙ eqb-true x k is))) (λ h'. without_has k j xs h' ne) h)
+    (λ _. ⊎_elim (λ e. inl e) (λ h'. inr (without_has k j xs h' ne)) h)
 
 pub without_le : (k : ℕ) (ns : List ℕ) → length (without k ns) ≤ length ns
 without_le k [] = omega arith
-without_le k (x ∷ xs) =
-    let r = without_le k xs in
-    elim (eqb x k) as (λ b. length (cond b (without k xs) (x ∷ without k xs)) ≤ suc (length xs)) [ true ↦ omega arith | false ↦ omega arith ]
+without_le k (x ∷ xs) = let r = without_le k xs in cond_both (x == k) (without k xs) (x ∷ without k xs) (λ z. length z ≤ suc (length xs)) (λ _. omega arith) (λ _. omega arith)
 
 pub without_less : (k : ℕ) (ns : List ℕ) → IsAmong k ns → length (without k ns) + 1 ≤ length ns
 without_less k [] h = absurd h
-without_less k (x ∷ xs) h = dite (ℕ_discrete x k)
-    (λ (is : x ≡ k).
-    subst (λ (b : Bool). length (cond b (without k xs) (x ∷ without k xs)) + 1 ≤ suc (length xs)) (sym (eq-eqb x k is))
-    (let r = without_le k xs in omega arith))
-    (λ (not : x ≢ k).
-    subst (λ (b : Bool). length (cond b (without k xs) (x ∷ without k xs)) + 1 ≤ suc (length xs)) (sym (ne_eqb x k not))
-    (⊎_elim (λ (e : x ≡ k). absurd (not e)) (λ h'. let r = without_less k xs h' in omega arith) h))
+without_less k (x ∷ xs) h = cond_both (x == k) (without k xs) (x ∷ without k xs) (λ z. length z + 1 ≤ suc (length xs))
+    (λ _. let r = without_le k xs in omega arith)
+    (λ ne. ⊎_elim (λ e. absurd (eqb-false x k ne e)) (λ h'. let r = without_less k xs h' in omega arith) h)
 
 pub has_some : (k : ℕ) (ns : List ℕ) → IsAmong k ns → 0 < length ns
 has_some k [] h = absurd h

@@ -1,54 +1,45 @@
 -- Joining two seats keeps the rule.
-use Rattle.std.proofs.Common.{sum_by, ◌≡◌, ◌≢◌, ◌⊎◌, ℕ, ◌+◌, ◌<◌, ◌≤◌, Bool, cond, List, length, set, sym, refl, ap, ◌∙◌, subst, inl, inr, ⊎_elim, arith, length-append, lt-ltb, le-ltb}
+use Rattle.std.proofs.Common.{sum_by, ◌≡◌, ◌≢◌, ℕ, ◌+◌, ◌<◌, ◌≤◌, Bool, true, false, cond, nat_lt, List, length, set, sym, refl, ap, ◌∙◌, subst, ⊎_elim, arith, length-append, lt-ltb, le-ltb}
 use mathlib.Core.Option.{some}
-use native.Mathlib.Decide.{dec_lt}
 use lib.ListN.{get_elem?}
 use Rattle.a1_base.proofs.Sums.{sum_set}
 use Rattle.std.specs.Prelude.{Option}
 use Rattle.atomic_table.specs.Table.{State, Joins}
 use Rattle.atomic_table.proofs.Lists.{at_set, set_else}
 use Rattle.turnstile.specs.declared.view.View.{View}
-use Rattle.turnstile.specs.declared.view.Stage.TheVariants.{Idle, Inside}
+use Rattle.turnstile.specs.declared.view.Stage.TheVariants.{Idle}
 use Rattle.turnstile.specs.Turns.{tickets, joined, spent, ViewFits, Apart, Kept}
 use Rattle.turnstile.specs.Entries.{longer, shorter}
 use Rattle.a1_base.specs.Lists.{IsAmong, BeginsWith, entries_of}
-use Rattle.turnstile.proofs.Lists.{each_set, apart_set, apart_flip, somebody_set, set_swap}
-use Rattle.turnstile.proofs.Histories.{begins_none, has_either, between, of_between, begins_itself}
+use Rattle.a1_base.proofs.Views.{each_set}
+use Rattle.turnstile.proofs.Lists.{apart_set, apart_flip, nobody_set, somebody_set, set_swap}
+use Rattle.turnstile.proofs.Histories.{has_either, between, of_between, begins_itself}
 use Rattle.turnstile.proofs.Draws.{not_inside}
+use Rattle.turnstile.proofs.Idles.{idle_fits, kept_views}
+use Rattle.std.proofs.lemmas.Bool.{cases_lt}
 
 module _ {E : Type 0} where
+  by_length : (P : Bool → Type 0) (a b : List E) → (length a < length b → P true) → (length b ≤ length a → P false) → P (nat_lt (length a) (length b))
+  by_length P a b less rest = ⊎_elim (λ lt. subst P (sym (lt-ltb _ _ lt)) (less lt)) (λ le. subst P (sym (le-ltb _ _ le)) (rest le)) (cases_lt (length a) (length b))
+
   joined_heard : (log a b : List E) → BeginsWith log a → BeginsWith log b → BeginsWith (longer a b) (shorter a b)
-  joined_heard log a b p q = by_test (dec_lt (length a) (length b)) where
-    by_test : Dec (length a < length b) → BeginsWith (longer a b) (shorter a b)
-    by_test (yes lt) = subst (λ (t : Bool). BeginsWith (cond t b a) (cond t a b)) (sym (lt-ltb (length a) (length b) lt)) (between log a b p q (omega arith))
-    by_test (no ge) = let le : length b ≤ length a = omega arith in
-        subst (λ (t : Bool). BeginsWith (cond t b a) (cond t a b)) (sym (le-ltb (length a) (length b) le)) (between log b a q p le)
+  joined_heard log a b p q = by_length (λ t. BeginsWith (cond t b a) (cond t a b)) a b (λ lt. between log a b p q (omega arith)) (between log b a q p)
 
   joined_own : (number : E → ℕ) (log : List E) (v w : View E) → BeginsWith log v.seen → BeginsWith log w.seen
-      → ((k : ℕ) → IsAmong k v.numbers → entries_of number k log ≡ entries_of number k v.seen) → ((k : ℕ) → IsAmong k w.numbers → entries_of number k log ≡ entries_of number k w.seen)
+      → ((k : ℕ) → IsAmong k v.numbers → entries_of number k log ≡ entries_of number k v.seen)
+      → ((k : ℕ) → IsAmong k w.numbers → entries_of number k log ≡ entries_of number k w.seen)
       → (k : ℕ) → IsAmong k (joined v w).heard_numbers → entries_of number k (joined v w).seen ≡ entries_of number k (joined v w).heard
-  joined_own number log v w p q own own' k = by_test (dec_lt (length v.seen) (length w.seen)) where
-    by_test : Dec (length v.seen < length w.seen) → IsAmong k (joined v w).heard_numbers → entries_of number k (joined v w).seen ≡ entries_of number k (joined v w).heard
-    by_test (yes lt) = subst (λ (t : Bool). IsAmong k (cond t v.numbers w.numbers) → entries_of number k (cond t w.seen v.seen) ≡ entries_of number k (cond t v.seen w.seen)) (sym (lt-ltb (length v.seen) (length w.seen) lt))
-        (λ h. sym (of_between number k log v.seen w.seen q (between log v.seen w.seen p q (omega arith)) (own k h)) ∙ own k h)
-    by_test (no ge) = let le : length w.seen ≤ length v.seen = omega arith in
-        subst (λ (t : Bool). IsAmong k (cond t v.numbers w.numbers) → entries_of number k (cond t w.seen v.seen) ≡ entries_of number k (cond t v.seen w.seen)) (sym (le-ltb (length v.seen) (length w.seen) le))
-        (λ h. sym (of_between number k log w.seen v.seen p (between log w.seen v.seen q p le) (own' k h)) ∙ own' k h)
-
-  by_length : (a b : List E) → ((longer a b ≡ b) × (length a ≤ length b)) ⊎ ((longer a b ≡ a) × (length b ≤ length a))
-  by_length a b = by_test (dec_lt (length a) (length b)) where
-    by_test : Dec (length a < length b) → ((longer a b ≡ b) × (length a ≤ length b)) ⊎ ((longer a b ≡ a) × (length b ≤ length a))
-    by_test (yes lt) = inl (ap (λ (t : Bool). cond t b a) (lt-ltb (length a) (length b) lt), omega arith)
-    by_test (no ge) = let le : length b ≤ length a = omega arith in inr (ap (λ (t : Bool). cond t b a) (le-ltb (length a) (length b) le), le)
+  joined_own number log v w p q own own' k = by_length
+      (λ t. IsAmong k (cond t v.numbers w.numbers) → entries_of number k (cond t w.seen v.seen) ≡ entries_of number k (cond t v.seen w.seen)) v.seen w.seen
+      (λ lt h. sym (of_between number k log v.seen w.seen q (between log v.seen w.seen p q (omega arith)) (own k h)) ∙ own k h)
+      (λ le h. sym (of_between number k log w.seen v.seen p (between log w.seen v.seen q p le) (own' k h)) ∙ own' k h)
 
   pub longer_begins : (log a b : List E) → BeginsWith log a → BeginsWith log b → BeginsWith log (longer a b)
-  longer_begins log a b p q = ⊎_elim (λ t. subst (BeginsWith log) (sym t.0) q) (λ t. subst (BeginsWith log) (sym t.0) p) (by_length a b)
+  longer_begins log a b p q = by_length (λ t. BeginsWith log (cond t b a)) a b (λ _. q) (λ _. p)
 
   pub longer_begun : (log a b : List E) → BeginsWith log a → BeginsWith log b → BeginsWith (longer a b) a × BeginsWith (longer a b) b
-  longer_begun log a b p q = ⊎_elim
-      (λ t. (subst (λ (z : List E). BeginsWith z a) (sym t.0) (between log a b p q t.1), subst (λ (z : List E). BeginsWith z b) (sym t.0) (begins_itself b)))
-      (λ t. (subst (λ (z : List E). BeginsWith z a) (sym t.0) (begins_itself a), subst (λ (z : List E). BeginsWith z b) (sym t.0) (between log b a q p t.1)))
-      (by_length a b)
+  longer_begun log a b p q = by_length (λ t. BeginsWith (cond t b a) a × BeginsWith (cond t b a) b) a b
+      (λ lt. (between log a b p q (omega arith), begins_itself b)) (λ le. (begins_itself a, between log b a q p le))
 
 module _ {T E : Type 0} (stands : T → List E → Type 0) (number : E → ℕ) (passes : ℕ) (start : E) where
   abbrev K : State (Option T) (View E) → Type 0
@@ -78,69 +69,38 @@ module _ {T E : Type 0} (stands : T → List E → Type 0) (number : E → ℕ) 
       let none' : f w ≡ 0 = ap tickets idle' in
       let a = k.fits id v at in
       let b = k.fits other w at' in
-      let out = k.out in
       let begun = longer_begun k.log v.seen w.seen a.seen b.seen in
       let begins = longer_begins k.log v.seen w.seen a.seen b.seen in
-      let P : View E → Type 0 = λ z. (m : ℕ) → z.stage ≡ Inside m → ⊥ in
+      kept_views stands number passes start s k (set less id both) (omega arith) (omega arith)
+      (each_set (ViewFits number passes k.log k.drawn k.served) less id both
+      (λ j u ne. each_set (ViewFits number passes k.log k.drawn k.served) s.views other spent (λ j u ne e. k.fits j u e)
+      (idle_fits number passes k.log k.drawn k.served _ _ (k.log, refl) (λ x h. absurd h) (λ x h. absurd h)) j u)
       record {
-        log = k.log;
-        drawn = k.drawn;
-        served = k.served;
-        words = k.words;
-        out = omega arith;
-        few = k.few;
-        held = let h = k.held in omega arith;
-        begins = k.begins;
-        zeros = k.zeros;
-        no_more = k.no_more;
-        fits = each_set (ViewFits number passes k.log k.drawn k.served) less id both
-            (λ j u ne e. each_set (ViewFits number passes k.log k.drawn k.served) s.views other spent (λ j u ne e. k.fits j u e)
-            record {
-              seen = (k.log, refl);
-              heard = begins_none _;
-              heard_own = λ x h. absurd h;
-              own = λ x h. absurd h;
-              range = λ x h. absurd h;
-              ticket = λ m t. absurd t;
-              inside = λ m e. cc;
-            } j u e)
-            record {
-              seen = begins;
-              heard = joined_heard k.log v.seen w.seen a.seen b.seen;
-              heard_own = joined_own number k.log v w a.seen b.seen a.own b.own;
-              own = λ x h. ⊎_elim
-                  (λ p. of_between number x k.log v.seen (longer v.seen w.seen) begins begun.0 (a.own x p))
-                  (λ p. of_between number x k.log w.seen (longer v.seen w.seen) begins begun.1 (b.own x p))
-                  (has_either x v.numbers w.numbers h);
-              range = λ x h. ⊎_elim (λ p. a.range x p) (λ p. b.range x p) (has_either x v.numbers w.numbers h);
-              ticket = λ m t. absurd t;
-              inside = λ m e. cc;
-            };
-        apart = apart_set less id both
-            (apart_set s.views other spent k.apart (λ j u ne e. apart_spent u))
-            (λ j u ne' e. ⊎_elim
-            (λ t. subst (λ (z : View E). Apart both z) t.1 (apart_flip spent both (apart_spent both)))
-            (λ t.
-            let p = k.apart id j v u (λ (z : id ≡ j). ne' (sym z)) at t.1 in
-            let q = k.apart other j w u (λ (z : other ≡ j). t.0 (sym z)) at' t.1 in
-            record {
-              numbers = λ x h r. ⊎_elim (λ y. p.numbers x y r) (λ y. q.numbers x y r) (has_either x v.numbers w.numbers h);
-              tickets = λ m h r. absurd h;
-            })
-            (at_set s.views other j spent u e));
-        slot = ⊎_elim
-            (λ t. inl (
-              t.0,
-              t.1,
-              t.2,
-              λ i u m e is.
-                  each_set P less id both
-                  (λ j u ne e. each_set P s.views other spent (λ j u ne e m is. t.3 j u m e is) (λ m is. cc) j u e)
-                  (λ m is. cc) i u e m is,
-            ))
-            (λ t. inr (t.0, somebody_set less id v both at1 (not_inside v idle) (somebody_set s.views other w spent at' (not_inside w idle') t.1)))
-            k.slot;
-      }
+        seen = begins;
+        heard = joined_heard k.log v.seen w.seen a.seen b.seen;
+        heard_own = joined_own number k.log v w a.seen b.seen a.own b.own;
+        own = λ x h. ⊎_elim
+            (λ p. of_between number x k.log v.seen (longer v.seen w.seen) begins begun.0 (a.own x p))
+            (λ p. of_between number x k.log w.seen (longer v.seen w.seen) begins begun.1 (b.own x p))
+            (has_either x v.numbers w.numbers h);
+        range = λ x h. ⊎_elim (a.range x) (b.range x) (has_either x v.numbers w.numbers h);
+        ticket = λ m t. absurd t;
+        inside = λ m e. cc;
+      })
+      (apart_set less id both
+      (apart_set s.views other spent k.apart (λ j u ne e. apart_spent u))
+      (λ j u ne' e. ⊎_elim
+      (λ t. subst (λ (z : View E). Apart both z) t.1 (apart_flip spent both (apart_spent both)))
+      (λ t.
+      let p = k.apart id j v u (λ (z : id ≡ j). ne' (sym z)) at t.1 in
+      let q = k.apart other j w u (λ (z : other ≡ j). t.0 (sym z)) at' t.1 in
+      record {
+        numbers = λ x h r. ⊎_elim (λ y. p.numbers x y r) (λ y. q.numbers x y r) (has_either x v.numbers w.numbers h);
+        tickets = λ m h r. absurd h;
+      })
+      (at_set s.views other j spent u e)))
+      (λ nobody. nobody_set less id both (nobody_set s.views other spent nobody (λ m is. cc)) (λ m is. cc))
+      (λ somebody. somebody_set less id v both at1 (not_inside v idle) (somebody_set s.views other w spent at' (not_inside w idle') somebody))
 
   pub joins : (id other : ℕ) (v w : View E) → v.stage ≡ Idle → w.stage ≡ Idle → Joins K id v other w (joined v w) spent
   joins id other v w idle idle' s k at ne at' =

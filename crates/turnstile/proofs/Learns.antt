@@ -7,7 +7,8 @@ use Rattle.turnstile.specs.declared.view.View.{View}
 use Rattle.turnstile.specs.declared.view.Stage.TheVariants.{Idle}
 use Rattle.turnstile.specs.Turns.{tickets, view, ViewFits, Kept, Learned}
 use Rattle.turnstile.proofs.Histories.{begins_none}
-use Rattle.turnstile.proofs.Lists.{each_set, apart_set, nobody_set, somebody_set}
+use Rattle.a1_base.proofs.Views.{each_set}
+use Rattle.turnstile.proofs.Lists.{apart_set, nobody_set, somebody_set}
 use Rattle.turnstile.proofs.Looks.{same_words}
 use Rattle.turnstile.proofs.Draws.{not_inside}
 

@@ -1,4 +1,5 @@
 pub mod Histories
+pub mod Idles
 pub mod Lists
 pub mod Starts
 pub mod Draws

@@ -3,6 +3,7 @@ use Rattle.std.proofs.Common.{◌≡◌, ◌≢◌, ◌⊎◌, ℕ, zero, suc, �
 use mathlib.Core.Option.{some, some-injective, some-ne-none}
 use lib.ListN.{get_elem?}
 use Rattle.atomic_table.proofs.Lists.{at_set, set_else}
+use Rattle.a1_base.proofs.Views.{each_set}
 use Rattle.turnstile.specs.declared.view.View.{View}
 use Rattle.turnstile.specs.declared.view.Stage.{Stage}
 use Rattle.turnstile.specs.declared.view.Stage.TheVariants.{Idle, Waits, Inside}
@@ -16,12 +17,6 @@ here_set (x ∷ xs) (suc i) v w e = here_set xs i v w e
 module _ {E : Type 0} where
   pub apart_flip : (v w : View E) → Apart v w → Apart w v
   apart_flip v w a = record { numbers = λ k p q. a.numbers k q p; tickets = λ n p q. a.tickets n q p }
-
-  -- what holds of each other view and of the new one holds of all
-  pub each_set : (P : View E → Type 0) (views : List (View E)) (id : ℕ) (w : View E)
-      → ((j : ℕ) (u : View E) → j ≢ id → get_elem? views j ≡ some u → P u) → P w
-      → (j : ℕ) (u : View E) → get_elem? (set views id w) j ≡ some u → P u
-  each_set P views id w others mine j u e = ⊎_elim (λ t. subst P t.1 mine) (λ t. others j u t.0 t.1) (at_set views id j w u e)
 
   pub apart_set : (views : List (View E)) (id : ℕ) (w : View E)
       → ((i j : ℕ) (v u : View E) → i ≢ j → get_elem? views i ≡ some v → get_elem? views j ≡ some u → Apart v u)
@@ -39,10 +34,7 @@ module _ {E : Type 0} where
       (at_set views id i w v e)
 
   pub nobody_set : (views : List (View E)) (id : ℕ) (w : View E) → NobodyInside views → ((n : ℕ) → w.stage ≡ Inside n → ⊥) → NobodyInside (set views id w)
-  nobody_set views id w nobody mine i v n e is = ⊎_elim
-      (λ t. mine n (ap (λ (z : View E). z.stage) t.1 ∙ is))
-      (λ t. nobody i v n t.1 is)
-      (at_set views id i w v e)
+  nobody_set views id w nobody mine i v n e = each_set (λ (z : View E). (m : ℕ) → z.stage ≡ Inside m → ⊥) views id w (λ j u ne e m. nobody j u m e) mine i v e n
 
   pub somebody_set : (views : List (View E)) (id : ℕ) (v w : View E) → get_elem? views id ≡ some v → ((n : ℕ) → v.stage ≡ Inside n → ⊥) → SomebodyInside views → SomebodyInside (set views id w)
   somebody_set views id v w at not (i, u, n, e, is) =
@@ -71,11 +63,6 @@ set_swap (x ∷ xs) (suc i) zero a b ne = refl
 set_swap (x ∷ xs) (suc i) (suc j) a b ne = ap (λ (z : List _). x ∷ z) (set_swap xs i j a b (λ e. ne (ap suc e)))
 
 module _ {E : Type 0} where
-  pub each_end : (P : View E → Type 0) (views : List (View E)) (w : View E)
-      → ((j : ℕ) (u : View E) → get_elem? views j ≡ some u → P u) → P w
-      → (j : ℕ) (u : View E) → get_elem? (views ++ w ∷ []) j ≡ some u → P u
-  each_end P views w others mine j u e = ⊎_elim (λ t. others j u t.1) (λ t. subst P t.1 mine) (at_end views w u j e)
-
   pub apart_end : (views : List (View E)) (w : View E)
       → ((i j : ℕ) (v u : View E) → i ≢ j → get_elem? views i ≡ some v → get_elem? views j ≡ some u → Apart v u)
       → ((j : ℕ) (u : View E) → get_elem? views j ≡ some u → Apart w u)

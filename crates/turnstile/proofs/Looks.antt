@@ -13,7 +13,8 @@ use Rattle.turnstile.specs.declared.view.View.{View}
 use Rattle.turnstile.specs.declared.view.Stage.{Stage}
 use Rattle.turnstile.specs.declared.view.Stage.TheVariants.{Waits, Inside}
 use Rattle.turnstile.specs.Turns.{word_of, HasTicket, tickets, view, ViewFits, Kept, LookedAt}
-use Rattle.turnstile.proofs.Lists.{each_set, apart_set, tickets_le, here_set}
+use Rattle.a1_base.proofs.Views.{each_set}
+use Rattle.turnstile.proofs.Lists.{apart_set, tickets_le, here_set}
 use Rattle.turnstile.proofs.Histories.{begins_none, begins_itself}
 
 module _ {T E : Type 0} (stands : T → List E → Type 0) (number : E → ℕ) (passes : ℕ) (start : E) where

@@ -9,8 +9,9 @@ use Rattle.turnstile.specs.declared.view.View.{View}
 use Rattle.turnstile.specs.declared.view.Stage.{Stage}
 use Rattle.turnstile.specs.declared.view.Stage.TheVariants.{Idle, Inside}
 use Rattle.turnstile.specs.Turns.{word_of, HasTicket, tickets, view, ViewFits, Kept, Gone}
-use Rattle.turnstile.proofs.Lists.{each_set, apart_set}
-use Rattle.turnstile.proofs.Histories.{begins_none}
+use Rattle.a1_base.proofs.Views.{each_set}
+use Rattle.turnstile.proofs.Lists.{apart_set}
+use Rattle.turnstile.proofs.Idles.{idle_fits}
 use Rattle.turnstile.proofs.Looks.{serving_is}
 use Rattle.turnstile.proofs.Draws.{next_word}
 use Rattle.turnstile.proofs.Counts.{alone_inside}
@@ -61,15 +62,7 @@ module _ {T E : Type 0} (stands : T → List E → Type 0) (number : E → ℕ) 
                     ((let q = p.0 in omega arith), p.1, p.2);
                 inside = λ m is. absurd (alone j u ne e m is);
               })
-              record {
-                seen = mine.seen;
-                heard = begins_none _;
-                heard_own = λ x h. absurd h;
-                own = mine.own;
-                range = mine.range;
-                ticket = λ m t. absurd t;
-                inside = λ m is. cc;
-              };
+              (idle_fits number passes k.log k.drawn (k.served + 1) _ _ mine.seen mine.own mine.range);
           apart = apart_set s.views id w k.apart
               (λ j u ne e. let a = k.apart id j v u (λ (z : id ≡ j). ne (sym z)) at e in record {
                 numbers = a.numbers;

@@ -1,5 +1,5 @@
 -- Splitting a seat keeps the rule.
-use Rattle.std.proofs.Common.{sum_by, ◌≡◌, ℕ, ◌+◌, List, [], ◌∷◌, ◌++◌, length, set, sym, ap, subst, inl, inr, ⊎_elim, arith}
+use Rattle.std.proofs.Common.{sum_by, ◌≡◌, ℕ, ◌+◌, List, [], ◌∷◌, ◌++◌, length, set, sym, ap, subst, ⊎_elim, arith}
 use Rattle.std.specs.Prelude.{Option}
 use Rattle.atomic_table.specs.Table.{State, Splits}
 use Rattle.atomic_table.proofs.Lists.{at_set, at_longer}
@@ -8,9 +8,11 @@ use Rattle.turnstile.specs.declared.view.View.{View}
 use Rattle.turnstile.specs.declared.view.Stage.TheVariants.{Idle, Inside}
 use Rattle.turnstile.specs.Turns.{tickets, first_half, second_half, ViewFits, Apart, Kept}
 use Rattle.a1_base.specs.Lists.{IsAmong}
-use Rattle.turnstile.proofs.Lists.{each_set, each_end, apart_set, apart_end, somebody_set}
-use Rattle.turnstile.proofs.Histories.{begins_none, without_else, without_less}
+use Rattle.a1_base.proofs.Views.{each_set, each_end}
+use Rattle.turnstile.proofs.Lists.{apart_set, apart_end, somebody_set}
+use Rattle.turnstile.proofs.Histories.{without_else, without_less}
 use Rattle.turnstile.proofs.Draws.{not_inside}
+use Rattle.turnstile.proofs.Idles.{idle_fits, kept_views}
 
 module _ {T E : Type 0} (stands : T → List E → Type 0) (number : E → ℕ) (passes : ℕ) (start : E) where
   abbrev K : State (Option T) (View E) → Type 0
@@ -30,66 +32,28 @@ module _ {T E : Type 0} (stands : T → List E → Type 0) (number : E → ℕ) 
       let none : f v ≡ 0 = ap tickets idle in
       let less = without_less n v.numbers has in
       let mine = k.fits id v at in
-      let out = k.out in
-      let mine_of : (j : ℕ) → IsAmong j (n ∷ []) → IsAmong j v.numbers = λ j h. ⊎_elim (λ (e : n ≡ j). subst (λ (z : ℕ). IsAmong z v.numbers) e has) (λ x. absurd x) h in
-      record {
-        log = k.log;
-        drawn = k.drawn;
-        served = k.served;
-        words = k.words;
-        out = omega arith;
-        few = k.few;
-        held = let h = k.held in omega arith;
-        begins = k.begins;
-        zeros = k.zeros;
-        no_more = k.no_more;
-        fits = each_end (ViewFits number passes k.log k.drawn k.served) views right
-            (each_set (ViewFits number passes k.log k.drawn k.served) s.views id left (λ j u ne e. k.fits j u e)
-            record {
-              seen = mine.seen;
-              heard = begins_none _;
-              heard_own = λ x h. absurd h;
-              own = λ j h. mine.own j (mine_of j h);
-              range = λ j h. mine.range j (mine_of j h);
-              ticket = λ m t. absurd t;
-              inside = λ m e. cc;
-            })
-            record {
-              seen = mine.seen;
-              heard = begins_none _;
-              heard_own = λ x h. absurd h;
-              own = λ j h. mine.own j (without_else n j v.numbers h).0;
-              range = λ j h. mine.range j (without_else n j v.numbers h).0;
-              ticket = λ m t. absurd t;
-              inside = λ m e. cc;
-            };
-        apart = apart_end views right
-            (apart_set s.views id left k.apart
-            (λ j u ne e. let a = k.apart id j v u (λ (z : id ≡ j). ne (sym z)) at e in record {
-              numbers = λ x p q. a.numbers x (mine_of x p) q;
-              tickets = λ m p q. absurd p;
-            }))
-            (λ j u e. ⊎_elim
-            (λ t. subst (λ (z : View E). Apart right z) t.1 record {
-              numbers = λ x p q. ⊎_elim (λ (z : n ≡ x). (without_else n x v.numbers p).1 (sym z)) (λ z. absurd z) q;
-              tickets = λ m p q. absurd p;
-            })
-            (λ t. let a = k.apart id j v u (λ (z : id ≡ j). t.0 (sym z)) at t.1 in record {
-              numbers = λ x p q. a.numbers x (without_else n x v.numbers p).0 q;
-              tickets = λ m p q. absurd p;
-            })
-            (at_set s.views id j left u e));
-        slot = ⊎_elim
-            (λ t. inl (
-              t.0,
-              t.1,
-              t.2,
-              λ i u m e is.
-                  each_end (λ (z : View E). (m : ℕ) → z.stage ≡ Inside m → ⊥) views right
-                  (each_set (λ (z : View E). (m : ℕ) → z.stage ≡ Inside m → ⊥) s.views id left (λ j u ne e m is. t.3 j u m e is) (λ m is. cc))
-                  (λ m is. cc) i u e m is,
-            ))
-            (λ t. let b = somebody_set s.views id v left at (not_inside v idle) t.1 in
-            inr (t.0, (b.0, b.1, b.2, at_longer views (right ∷ []) b.0 b.1 b.3, b.4)))
-            k.slot;
-      }
+      let mine_of : (j : ℕ) → IsAmong j (n ∷ []) → IsAmong j v.numbers = λ j. ⊎_elim (λ (e : n ≡ j). subst (λ (z : ℕ). IsAmong z v.numbers) e has) (λ x. absurd x) in
+      let P : View E → Type 0 = λ z. (m : ℕ) → z.stage ≡ Inside m → ⊥ in
+      kept_views stands number passes start s k (views ++ right ∷ []) (omega arith) (omega arith)
+      (each_end (ViewFits number passes k.log k.drawn k.served) views right
+      (each_set (ViewFits number passes k.log k.drawn k.served) s.views id left (λ j u ne e. k.fits j u e)
+      (idle_fits number passes k.log k.drawn k.served _ _ mine.seen (λ j h. mine.own j (mine_of j h)) (λ j h. mine.range j (mine_of j h))))
+      (idle_fits number passes k.log k.drawn k.served _ _ mine.seen
+      (λ j h. mine.own j (without_else n j v.numbers h).0) (λ j h. mine.range j (without_else n j v.numbers h).0)))
+      (apart_end views right
+      (apart_set s.views id left k.apart (λ j u ne e. let a = k.apart id j v u (λ (z : id ≡ j). ne (sym z)) at e in record {
+        numbers = λ x p q. a.numbers x (mine_of x p) q;
+        tickets = λ m p q. absurd p;
+      }))
+      (λ j u e. ⊎_elim
+      (λ t. subst (λ (z : View E). Apart right z) t.1 record {
+        numbers = λ x p q. ⊎_elim (λ (z : n ≡ x). (without_else n x v.numbers p).1 (sym z)) (λ z. absurd z) q;
+        tickets = λ m p q. absurd p;
+      })
+      (λ t. let a = k.apart id j v u (λ (z : id ≡ j). t.0 (sym z)) at t.1 in record {
+        numbers = λ x p q. a.numbers x (without_else n x v.numbers p).0 q;
+        tickets = λ m p q. absurd p;
+      })
+      (at_set s.views id j left u e)))
+      (λ nobody i u m e. each_end P views right (each_set P s.views id left (λ j u ne e m. nobody j u m e) (λ m is. cc)) (λ m is. cc) i u e m)
+      (λ somebody. let b = somebody_set s.views id v left at (not_inside v idle) somebody in (b.0, b.1, b.2, at_longer views (right ∷ []) b.0 b.1 b.3, b.4))

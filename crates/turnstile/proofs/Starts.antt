@@ -1,6 +1,6 @@
 -- The rule holds at the start.
-use Rattle.std.proofs.Common.{◌≡◌, ◌≢◌, ℕ, zero, suc, ◌^◌, ◌<◌, Bool, List, [], ◌∷◌, cond, sym, refl, subst, inl, arith, eq-eqb, ne_eqb}
-use mathlib.Core.Option.{some, some-injective, some-ne-none}
+use Rattle.std.proofs.Common.{◌≡◌, ◌≢◌, ℕ, zero, suc, ◌^◌, ◌<◌, List, [], ◌∷◌, sym, refl, inl, arith, eq-eqb, ne_eqb}
+use mathlib.Core.Option.{some, some-ne-none}
 use lib.ListN.{get_elem?}
 use Rattle.std.specs.Prelude.{Some}
 use Rattle.atomic_table.specs.Table.{opening}
@@ -8,18 +8,17 @@ use Rattle.turnstile.specs.declared.view.View.{View}
 use Rattle.turnstile.specs.declared.view.Stage.TheVariants.{Inside}
 use Rattle.turnstile.specs.Turns.{newcomer, ViewFits, Apart, Kept}
 use Rattle.a1_base.specs.Lists.{entries_of}
-use Rattle.turnstile.proofs.Histories.{begins_none, up_to_has, up_to_length, begins_itself}
+use Rattle.std.proofs.lemmas.Bool.{cond-true, cond-false}
+use Rattle.a1_base.proofs.Views.{each_alone}
+use Rattle.turnstile.proofs.Histories.{up_to_has, up_to_length, begins_itself}
+use Rattle.turnstile.proofs.Idles.{idle_fits}
 
 module _ {T E : Type 0} (stands : T → List E → Type 0) (number : E → ℕ) (passes : ℕ) (start : E) where
   of_start : (k : ℕ) → number start ≢ k → entries_of number k (start ∷ []) ≡ []
-  of_start k ne = subst (λ (b : Bool). cond b (start ∷ []) [] ≡ []) (sym (ne_eqb (number start) k ne)) refl
+  of_start k ne = cond-false _ _ _ (ne_eqb (number start) k ne)
 
   of_zero : number start ≡ 0 → entries_of number 0 (start ∷ []) ≡ start ∷ []
-  of_zero is = subst (λ (b : Bool). cond b (start ∷ []) [] ≡ start ∷ []) (sym (eq-eqb (number start) 0 is)) refl
-
-  alone : (P : View E → Type 0) → P (newcomer passes start) → (i : ℕ) (v : View E) → get_elem? (newcomer passes start ∷ []) i ≡ some v → P v
-  alone P p zero v e = subst P (some-injective (newcomer passes start) v e) p
-  alone P p (suc i) v e = absurd (some-ne-none v (sym e))
+  of_zero is = cond-true _ _ _ (eq-eqb (number start) 0 is)
 
   no_two : (i j : ℕ) (v w : View E) → i ≢ j → get_elem? (newcomer passes start ∷ []) i ≡ some v → get_elem? (newcomer passes start ∷ []) j ≡ some w → Apart v w
   no_two zero zero v w ne e f = absurd (ne refl)
@@ -39,15 +38,8 @@ module _ {T E : Type 0} (stands : T → List E → Type 0) (number : E → ℕ) 
     begins = begins_itself (start ∷ []);
     zeros = of_zero is;
     no_more = λ k over. of_start k (λ (e : number start ≡ k). omega arith);
-    fits = alone (ViewFits number passes (start ∷ []) 0 0) record {
-      seen = begins_itself (start ∷ []);
-      heard = begins_none _;
-      heard_own = λ x h. absurd h;
-      own = λ k h. refl;
-      range = λ k h. up_to_has k passes h;
-      ticket = λ n t. absurd t;
-      inside = λ n e. cc;
-    };
+    fits = each_alone (ViewFits number passes (start ∷ []) 0 0) (newcomer passes start)
+        (idle_fits number passes (start ∷ []) 0 0 _ _ (begins_itself (start ∷ [])) (λ k h. refl) (λ k h. up_to_has k passes h));
     apart = no_two;
-    slot = inl (value, refl, st, λ i v n e is. alone (λ (z : View E). (m : ℕ) → z.stage ≡ Inside m → ⊥) (λ m e. cc) i v e n is);
+    slot = inl (value, refl, st, λ i v n e. each_alone (λ (z : View E). (m : ℕ) → z.stage ≡ Inside m → ⊥) (newcomer passes start) (λ m e. cc) i v e n);
   }

@@ -43,7 +43,13 @@ module _ {E : Type 0} where
 
   -- two passes in one, which has yet to learn that the longer list begins with the shorter
   abbrev pub joined : View E → View E → View E
-  joined v w = record { stage = Idle; numbers = v.numbers ++ w.numbers; seen = longer v.seen w.seen; heard = shorter v.seen w.seen; heard_numbers = cond (nat_lt (length v.seen) (length w.seen)) v.numbers w.numbers }
+  joined v w = record {
+    stage = Idle;
+    numbers = v.numbers ++ w.numbers;
+    seen = longer v.seen w.seen;
+    heard = shorter v.seen w.seen;
+    heard_numbers = cond (nat_lt (length v.seen) (length w.seen)) v.numbers w.numbers;
+  }
 
   abbrev pub having_added : List E → View E → View E
   having_added new v = view v.stage v.numbers (v.seen ++ new)
@@ -58,7 +64,8 @@ module _ {E : Type 0} where
   NobodyInside views = (i : ℕ) (v : View E) (n : ℕ) → get_elem? views i ≡ some v → v.stage ≡ Inside n → ⊥
 
   abbrev pub SomebodyInside : List (View E) → Type 0
-  SomebodyInside views = (i : ℕ) × (v : View E) × (n : ℕ) × (get_elem? views i ≡ some v) × (v.stage ≡ Inside n)
+  SomebodyInside views =
+      (i : ℕ) × (v : View E) × (n : ℕ) × (get_elem? views i ≡ some v) × (v.stage ≡ Inside n)
 
 -- what the rule says of one view
 pub record ViewFits {E : Type 0} (number : E → ℕ) (passes : ℕ) (log : List E) (drawn served : ℕ) (v : View E) : Type 0 where
@@ -79,14 +86,16 @@ pub record Apart {E : Type 0} (v w : View E) : Type 0 where
   pub tickets : (n : ℕ) → HasTicket v.stage n → HasTicket w.stage n → ⊥
 
 -- a value at home stands for the log; else somebody inside has it
-abbrev pub Slot : {T E : Type 0} → (T → List E → Type 0) → List E → List (maybe.Option (Option T)) → List (View E) → Type 0
+abbrev pub Slot : {T E : Type 0} → (T → List E → Type 0) → List E → List (maybe.Option (Option T)) → List (View E)
+    → Type 0
 Slot {T} stands log homes views =
     ((y : T) × (homes ≡ some (Some y) ∷ []) × stands y log × NobodyInside views)
     ⊎ ((homes ≡ none ∷ []) × SomebodyInside views)
 
 -- The words are the tickets drawn, the tickets served and the entries of the log. Fewer than 2^32 tickets are out, so two
 -- equal words are one ticket
-pub record Kept {T E : Type 0} (stands : T → List E → Type 0) (number : E → ℕ) (passes : ℕ) (start : E) (s : State (Option T) (View E)) : Type 0 where
+pub record Kept {T E : Type 0} (stands : T → List E → Type 0) (number : E → ℕ) (passes : ℕ) (start : E)
+    (s : State (Option T) (View E)) : Type 0 where
   pub log : List E
   pub drawn : ℕ
   pub served : ℕ
@@ -98,7 +107,8 @@ pub record Kept {T E : Type 0} (stands : T → List E → Type 0) (number : E �
   pub zeros : entries_of number 0 log ≡ start ∷ []
   pub no_more : (k : ℕ) → passes < k → entries_of number k log ≡ []
   pub fits : (i : ℕ) (v : View E) → get_elem? s.views i ≡ some v → ViewFits number passes log drawn served v
-  pub apart : (i j : ℕ) (v w : View E) → i ≢ j → get_elem? s.views i ≡ some v → get_elem? s.views j ≡ some w → Apart v w
+  pub apart : (i j : ℕ) (v w : View E) → i ≢ j → get_elem? s.views i ≡ some v → get_elem? s.views j ≡ some w
+      → Apart v w
   pub slot : Slot stands log s.homes s.views
 
 module _ {S E : Type 0} where
@@ -117,7 +127,9 @@ module _ {T E : Type 0} (stands : T → List E → Type 0) (number : E → ℕ) 
   -- with the slot in hand, the value stands for the list that is then seen, which begins with what was seen before and
   -- has no other entries of its numbers
   abbrev pub Entered : ℕ → View E → Me (Option T) (View E) → Type 0
-  Entered d v m' = (y : T) × (m' ≡ (view (Inside d) v.numbers m'.0.seen, (0, Some y) ∷ [])) × stands y m'.0.seen × BeginsWith m'.0.seen v.seen × SameOwn number v.numbers v.seen m'.0.seen
+  Entered d v m' =
+      (y : T) × (m' ≡ (view (Inside d) v.numbers m'.0.seen, (0, Some y) ∷ [])) × stands y m'.0.seen
+      × BeginsWith m'.0.seen v.seen × SameOwn number v.numbers v.seen m'.0.seen
 
   -- the ticket that is served was looked at, and is this seat's or not
   abbrev pub LookedAt : ℕ → Me (Option T) (View E) → ℕ → Me (Option T) (View E) → Type 0
@@ -140,17 +152,22 @@ module _ {S E : Type 0} where
 
   -- what was seen begins with what was heard, and hides no entries of the other's numbers
   abbrev pub Learned : (E → ℕ) → Me S (View E) → Me S (View E) → Type 0
-  Learned number m m' = BeginsWith m.0.seen m.0.heard × SameOwn number m.0.heard_numbers m.0.heard m.0.seen × (m' ≡ (view m.0.stage m.0.numbers m.0.seen, m.1))
+  Learned number m m' =
+      BeginsWith m.0.seen m.0.heard × SameOwn number m.0.heard_numbers m.0.heard m.0.seen
+      × (m' ≡ (view m.0.stage m.0.numbers m.0.seen, m.1))
 
   abbrev pub learned : (E → ℕ) → Step S → Me S (View E) → ℕ → Me S (View E) → Type 0
   learned number st m n m' = Learned number m m'
 
 -- a seat inside, with a value in hand that stands for what it has seen
 abbrev pub IsDone : {T E : Type 0} → (T → List E → Type 0) → Me (Option T) (View E) → Type 0
-IsDone {T} stands m = (n : ℕ) × (y : T) × (m.0.stage ≡ Inside n) × (m.1 ≡ (0, Some y) ∷ []) × stands y m.0.seen
+IsDone {T} stands m =
+    (n : ℕ) × (y : T) × (m.0.stage ≡ Inside n) × (m.1 ≡ (0, Some y) ∷ []) × stands y m.0.seen
 
 -- The value at the end stands for a log that begins with what was seen. What was seen has all entries of each number from 1
 -- on, and the log has no other entry of number 0 than the first
 abbrev pub ClosesWith : {T E : Type 0} → (T → List E → Type 0) → (E → ℕ) → E → T → List E → Type 0
 ClosesWith {T} {E} stands number start y seen =
-    (log : List E) × stands y log × BeginsWith log seen × ((k : ℕ) → 0 < k → entries_of number k log ≡ entries_of number k seen) × (entries_of number 0 log ≡ start ∷ [])
+    (log : List E) × stands y log × BeginsWith log seen
+    × ((k : ℕ) → 0 < k → entries_of number k log ≡ entries_of number k seen)
+    × (entries_of number 0 log ≡ start ∷ [])

@@ -21,9 +21,10 @@ impl<T: Keeps> Turnstile<T> {
     pub fn new(alloc: Global, value: T, passes: u32) -> Result<(Turnstile<T>, Pass<T>), (T, Memory)>
         requires passes { 0 < passes }
         requires stands { T.stands value (T.first value ∷ []) }
-        ensures lock { IfOk result (λ r. (pass_count r.0 ≡ passes) × (first_value r.0 ≡ value)) }
-        ensures pass { IfOk result (λ r. IsPassOf r.0 r.1 × (numbers r.1 ≡ up_to passes) × (seen r.1 ≡ T.first value ∷ [])) }
-        ensures err { IfErr result (λ e. e.0 ≡ value) }
+        ensures lock { IfOk result (λ made. (pass_count made.0 ≡ passes) × (first_value made.0 ≡ value)) }
+        ensures pass { IfOk result (λ made. IsPassOf made.0 made.1 × (numbers made.1 ≡ up_to passes)
+            × (seen made.1 ≡ T.first value ∷ [])) }
+        ensures err { IfErr result (λ refused. refused.0 ≡ value) }
     {
         let key = Key {
             passes,

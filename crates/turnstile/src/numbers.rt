@@ -45,16 +45,17 @@ impl<T: Keeps> Turnstile<T> {
 
     /// A pass with the numbers of both, which has seen the longer list. That list begins with what each had seen, and has
     /// no other entries of its numbers.
-    pub fn join(&self, a: Pass<T>, b: Pass<T>) -> Pass<T>
-        requires { IsPassOf self.now a × IsPassOf self.now b }
+    pub fn join(&self, first: Pass<T>, second: Pass<T>) -> Pass<T>
+        requires { IsPassOf self.now first × IsPassOf self.now second }
         ensures pass { IsPassOf self.now result }
-        ensures numbers { numbers result ≡ numbers a ++ numbers b }
-        ensures seen { seen result ≡ longer (seen a) (seen b) }
-        ensures begins { BeginsWith (seen result) (seen a) × BeginsWith (seen result) (seen b) }
-        ensures own { SameOwn T.number (numbers a) (seen a) (seen result) × SameOwn T.number (numbers b) (seen b) (seen result) }
+        ensures numbers { numbers result ≡ numbers first ++ numbers second }
+        ensures seen { seen result ≡ longer (seen first) (seen second) }
+        ensures begins { BeginsWith (seen result) (seen first) × BeginsWith (seen result) (seen second) }
+        ensures own { SameOwn T.number (numbers first) (seen first) (seen result)
+            × SameOwn T.number (numbers second) (seen second) (seen result) }
     {
-        let Pass { mut seat } = a;
-        let Pass { seat: other } = b;
+        let Pass { mut seat } = first;
+        let Pass { seat: other } = second;
         self.table.shared.join_seat::<Both>(&mut seat, other);
         self.table.shared.load::<Learnt<T>>(&mut seat, SERVING);
         Pass { seat }

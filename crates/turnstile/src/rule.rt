@@ -12,9 +12,9 @@ pub struct Turns<T> {
 impl<T: Keeps> TableRule<Option<T>, View<T::Entry>, Key<T>> for Turns<T> {
     ghost use Rattle.turnstile.specs.Turns.{Kept, newcomer};
 
-    ghost holds = { λ k. Kept T.stands T.number k.passes (T.first k.value.value) };
+    ghost holds = { λ key. Kept T.stands T.number key.passes (T.first key.value.value) };
 
-    ghost first = { λ k. newcomer k.passes (T.first k.value.value) };
+    ghost first = { λ key. newcomer key.passes (T.first key.value.value) };
 }
 
 /// A ticket was drawn.

@@ -111,7 +111,8 @@ fn gather(lock: &Turnstile<Book>, own: Pass<Book>, others: Pass<Book>, writers: 
     requires numbers { (numbers own ≡ writers ∷ []) × (numbers others ≡ up_to (writers - 1)) }
     ensures pass { IsPassOf lock.now result }
     ensures numbers { numbers result ≡ up_to writers }
-    ensures written { (before : List Mark) (n : ℕ) → HasWritten writers n before (seen own) → HaveWritten (writers - 1) n before (seen others) → HaveWritten writers n before (seen result) }
+    ensures written { (before : List Mark) (n : ℕ) → HasWritten writers n before (seen own)
+        → HaveWritten (writers - 1) n before (seen others) → HaveWritten writers n before (seen result) }
 {
     lock.join(own, others)
 }
@@ -139,11 +140,13 @@ fn write_by_each<R: Threads + Wait + Sync>(
         rt,
         || -> (Pass<Book>, bool)
             requires { IsPassOf lock.now own × (numbers own ≡ writers ∷ []) }
-            ensures { IsPassOf lock.entry.now result.0 × (numbers result.0 ≡ writers ∷ []) × (IsTrue result.1 → HasWritten writers times (seen own) (seen result.0)) }
+            ensures { IsPassOf lock.entry.now result.0 × (numbers result.0 ≡ writers ∷ [])
+                × (IsTrue result.1 → HasWritten writers times (seen own) (seen result.0)) }
         { write_all(rt, lock, own, writers, times) },
         || -> (Pass<Book>, bool)
             requires { IsPassOf lock.now others × (numbers others ≡ up_to (writers - 1)) × (1 < writers) }
-            ensures { IsPassOf lock.entry.now result.0 × (numbers result.0 ≡ up_to (writers - 1)) × (IsTrue result.1 → HaveWritten (writers - 1) times (seen others) (seen result.0)) }
+            ensures { IsPassOf lock.entry.now result.0 × (numbers result.0 ≡ up_to (writers - 1))
+                × (IsTrue result.1 → HaveWritten (writers - 1) times (seen others) (seen result.0)) }
         { write_by_each(rt, lock, others, writers - 1, times) },
     );
     (gather(lock, own, others, writers), wrote && all_wrote)
