@@ -4,7 +4,7 @@ use Rattle.std.specs.Prelude.{IfSome}
 use Rattle.std.specs.Io.KnownBytes.{append_known}
 use Rattle.run_text.specs.Run.{empty_run}
 use Rattle.run_text.specs.declared.run.Run.{Run}
-use Rattle.a1.specs.Outside.{Side, Outside, outside, no_store, HasFailed, IsUntouched, IsWritten}
+use Rattle.a1.specs.Outside.{Outside, HasFailed, IsUntouched, IsWritten}
 use Rattle.a1.specs.Endings.{usage_text, bad_line_text, cause_status, status_in, Writes, Tells, Finishes}
 use Rattle.a1.specs.Rules.{Serves}
 use Rattle.a1.specs.RunCommand.{IsLegalRun}

@@ -72,5 +72,8 @@ pub const LAST_STAMP: u64 = STAMP_LIMIT - 1;
 /// The stamp of the graph, or of the heap, that a database begins with.
 pub const OPENING_STAMP: u64 = 1;
 
+/// A store has no item at this index, 2^62, or above.
+pub const ITEM_LIMIT: u64 = 4_611_686_018_427_387_904;
+
 /// Every graph number is below this.
 pub const GRAPH_NUMBER_LIMIT: u64 = 4_611_686_018_427_387_903;

@@ -1,5 +1,6 @@
 -- What a call of a store does to its list of items.
-use Rattle.std.specs.Prelude.{◌≡◌, ◌⊎◌, ℕ, ◌≤◌, ◌<◌, ◌^◌, List, [], ◌∷◌, ◌++◌, Option, Some, None, Result, Ok, Err, slice_get, ⊤}
+use Rattle.std.specs.Prelude.{◌≡◌, ◌⊎◌, ℕ, ◌≤◌, ◌<◌, List, [], ◌∷◌, ◌++◌, Option, Some, None, Result, Ok, Err, slice_get, ⊤}
+use Rattle.a1_base.specs.declared.limits.TheConstants.{ITEM_LIMIT}
 use Rattle.a1_base.specs.Outside.{Rose}
 use Rattle.object_store.specs.declared.store.StoreMiss.{StoreMiss}
 use Rattle.object_store.specs.declared.store.StoreMiss.TheVariants.{Failed, Memory}
@@ -11,12 +12,12 @@ PutAdds (Some items) new item (Ok done) = new ≡ Some (items ++ item ∷ [])
 PutAdds (Some items) new item (Err Failed) = (new ≡ Some items) ⊎ (new ≡ Some (items ++ item ∷ []))
 PutAdds (Some items) new item (Err Memory) = new ≡ Some items
 
--- the item, or none exactly at or past the end; from index 2^62 on every store has none
+-- the item, or none exactly at or past the end; from ITEM_LIMIT on every store has none
 abbrev pub GetGives : Option (List (List ℕ)) → ℕ → Result (Option (List ℕ)) StoreMiss → Type 0
-GetGives None index (Ok (Some item)) = index < 2 ^ 62
+GetGives None index (Ok (Some item)) = index < ITEM_LIMIT
 GetGives None index (Ok None) = ⊤
 GetGives None index (Err e) = ⊤
-GetGives (Some items) index (Ok found) = (found ≡ slice_get items index) × (2 ^ 62 ≤ index → found ≡ None)
+GetGives (Some items) index (Ok found) = (found ≡ slice_get items index) × (ITEM_LIMIT ≤ index → found ≡ None)
 GetGives (Some items) index (Err e) = ⊤
 
 abbrev pub MissesWithCause : ℕ → ℕ → StoreMiss → Type 0
