@@ -22,7 +22,8 @@ abbrev pub Says : Option Command → Side (List ℕ) → Cause → List ℕ → 
 Says (Some c) source cause.Done text run = (rules_of c).IsServed source text run
 Says (Some c) source cause.Unread text run = HasFailed source × (text ≡ []) × (run ≡ empty_run)
 Says (Some c) source (cause.Malformed line) text run =
-    IfSome source.before (λ bytes. (rules_of c).IsMalformed bytes line) × (text ≡ bad_line_text line) × (run ≡ empty_run)
+    IfSome source.before (λ bytes. (rules_of c).IsMalformed bytes line) × (text ≡ bad_line_text line)
+    × (run ≡ empty_run)
 Says None source cause.Usage text run = (text ≡ usage_text) × (run ≡ empty_run)
 Says c source cause.Memory text run = (text ≡ []) × (run ≡ empty_run)
 Says c source why text run = ⊥

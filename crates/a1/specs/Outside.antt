@@ -49,4 +49,5 @@ IsWritten sink text = sink.after ≡ append_known sink.before text
 
 -- a front of the text, and not all of it, is written behind what was, because the sink failed
 abbrev pub IsCutShort : Side (List ℕ) → List ℕ → Type 0
-IsCutShort sink text = ((n : ℕ) × (n < length text) × (sink.after ≡ append_known sink.before (take n text))) × HasFailed sink
+IsCutShort sink text = ((n : ℕ) × (n < length text) × (sink.after ≡ append_known sink.before (take n text)))
+    × HasFailed sink

@@ -68,7 +68,8 @@ pub fn a1<T: Wait, R: Source, W: Sink, S: Store, G: Gate>(
         (text : List ℕ) × (rules_of c).IsServed (side R.left R.faults source.old source.new) text result.run
         × (W.written sink.new ≡ append_known (W.written sink.old) text) }
     ensures run_or_none { ((c : Command) × (text : List ℕ) × (command_of words.now ≡ Some c)
-        × (rules_of c).IsServed (side R.left R.faults source.old source.new) text result.run) ⊎ (result.run ≡ empty_run) }
+        × (rules_of c).IsServed (side R.left R.faults source.old source.new) text result.run)
+        ⊎ (result.run ≡ empty_run) }
     ensures no_run { ((result.status ≡ 2) ⊎ (result.status ≡ 3) ⊎ (result.status ≡ 8)) → result.run ≡ empty_run }
 
     // The requests answered as committed form, in the order of their stamps, one legal history.

@@ -12,7 +12,8 @@ pub record Shown : Type 0 where
   pub done : ℕ
 
 -- The state is one that some run from the beginning leads to, and the core has its clock, its nodes and its loading,
--- and of each actor how often it began and the transaction that is open. Of a transaction that has ended it knows nothing
+-- and of each actor how often it began and the transaction that is open. Of a transaction that has ended it knows
+-- nothing
 abbrev pub CoreStands : Shown → State → Type 0
 CoreStands core s = Stands core.farm s
 

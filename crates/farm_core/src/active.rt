@@ -103,9 +103,11 @@ impl Active {
         transaction: TxnId,
         event: &Event,
     ) -> Result<Answer, Memory>
-        requires { (s : State) × Reached s × AtClock self.old nodes.old clock.old transaction s × IsOf transaction event.now
+        requires { (s : State) × Reached s × AtClock self.old nodes.old clock.old transaction s
+            × IsOf transaction event.now
             × InRange s.nodes event.now }
-        ensures { (s : State) → Reached s → AtClock self.old nodes.old clock.old transaction s → IsOf transaction event.now
+        ensures { (s : State) → Reached s → AtClock self.old nodes.old clock.old transaction s
+            → IsOf transaction event.now
             → Stepped transaction s event.now result (AtClock self.new nodes.new clock.new transaction) }
     {
         if self.meets(nodes, transaction, event) {
@@ -118,7 +120,8 @@ impl Active {
     /// Whether the transaction holds a lock. It takes a logarithm for each lock that went since it was last asked.
     pub fn holds_lock(&mut self, nodes: &[Node], transaction: TxnId) -> bool
         requires { 0 < length nodes.now }
-        ensures { (s : State) → Reached s → At self.old nodes.now transaction s → (IsTrue result ↔ HoldsLock s transaction)
+        ensures { (s : State) → Reached s → At self.old nodes.now transaction s
+            → (IsTrue result ↔ HoldsLock s transaction)
             × At self.new nodes.now transaction s }
     {
         any_held(&mut self.locked, nodes, transaction)
@@ -184,7 +187,8 @@ impl Active {
     ) -> Result<Answer, Memory>
         requires can { CanAct self.old nodes.old transaction (event.Alloc transaction node bytes.now) }
         requires node { node < length nodes.old }
-        ensures { ActsOn self.old nodes.old transaction (event.Alloc transaction node bytes.now) result self.new nodes.new }
+        ensures { ActsOn self.old nodes.old transaction
+            (event.Alloc transaction node bytes.now) result self.new nodes.new }
     {
         let bytes = Bin::from_slice(alloc, bytes.as_slice())?;
         self.locked.reserve(1)?;

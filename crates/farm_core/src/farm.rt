@@ -42,9 +42,11 @@ impl Slot {
         transaction: TxnId,
         event: &Event,
     ) -> Result<Answer, Memory>
-        requires { (s : State) × Reached s × SlotAt self.old nodes.old clock.old transaction s × IsOf transaction event.now
+        requires { (s : State) × Reached s × SlotAt self.old nodes.old clock.old transaction s
+            × IsOf transaction event.now
             × InRange s.nodes event.now }
-        ensures { (s : State) → Reached s → SlotAt self.old nodes.old clock.old transaction s → IsOf transaction event.now
+        ensures { (s : State) → Reached s → SlotAt self.old nodes.old clock.old transaction s
+            → IsOf transaction event.now
             → Stepped transaction s event.now result (SlotAt self.new nodes.new clock.new transaction) }
     {
         if self.begins != transaction.number {
@@ -170,7 +172,8 @@ impl Farm {
     fn begin(&mut self, alloc: Global, transaction: TxnId) -> Answer
         requires actor { IsActor transaction }
         requires known { (s : State) × Stands self.old s }
-        ensures steps { (s : State) → Stands self.old s → StepsTo s (event.Begin transaction) (Ok result) (Stands self.new) }
+        ensures steps { (s : State) → Stands self.old s
+            → StepsTo s (event.Begin transaction) (Ok result) (Stands self.new) }
         ensures nodes { length self.new.nodes.items ≡ length self.old.nodes.items }
     {
         let actor = transaction.actor as usize;
@@ -191,7 +194,8 @@ impl Farm {
     fn shut(&mut self, transaction: TxnId) -> Answer
         requires actor { IsActor transaction }
         requires known { (s : State) × Stands self.old s }
-        ensures steps { (s : State) → Stands self.old s → StepsTo s (event.Shut transaction) (Ok result) (Stands self.new) }
+        ensures steps { (s : State) → Stands self.old s
+            → StepsTo s (event.Shut transaction) (Ok result) (Stands self.new) }
         ensures nodes { length self.new.nodes.items ≡ length self.old.nodes.items }
     {
         let actor = transaction.actor as usize;

@@ -163,7 +163,8 @@ impl Places {
     fn first_free(&mut self, region: u32) -> Option<u32>
         requires made { IsSome (made_at self.old.made region) }
         ensures same { self.new ≡ self.old }
-        ensures free { IfSome result (λ offset. IfSome (made_at self.old.made region) (λ made. IsFirstFree made.region offset)) }
+        ensures free { IfSome result (λ offset. IfSome (made_at self.old.made region)
+            (λ made. IsFirstFree made.region offset)) }
         ensures full { IfNone result (IsFullAt self.old.made region) }
     {
         self.regions.get_mut(&region).unwrap().region.first_free()
@@ -186,7 +187,8 @@ impl Places {
     fn lowest_unmade(&mut self) -> Option<u32>
         ensures same { self.new ≡ self.old }
         ensures unmade { IfSome result (λ region. IsLowestUnmade self.old region) }
-        ensures all_made { IfNone result ((k : ℕ) → k < region_count → IsSome (made_at self.old.made (self.old.node + k * self.old.nodes))) }
+        ensures all_made { IfNone result ((k : ℕ) → k < region_count
+            → IsSome (made_at self.old.made (self.old.node + k * self.old.nodes))) }
     {
         while self.next < REGION_LIMIT {
             let region = self.node + self.next * self.nodes;

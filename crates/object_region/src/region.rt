@@ -24,7 +24,8 @@ impl Model for Region {
 
     ghost view = { λ region. region.taken.items };
 
-    ghost invariant = { λ region. (vec_len region.taken ≡ width) × ((k : ℕ) → k < region.low → is_taken region.taken.items k ≡ true) };
+    ghost invariant = { λ region. (vec_len region.taken ≡ width)
+        × ((k : ℕ) → k < region.low → is_taken region.taken.items k ≡ true) };
 }
 
 impl Region {

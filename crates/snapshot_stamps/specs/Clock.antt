@@ -28,7 +28,8 @@ pub record WatchFits (from clock : ℕ) (v : Watch) : Type 0 where
   -- no lane is marked, and none is looked at
   pub rests : (v.mark ≡ Empty) × (v.loaded ≡ None) × (v.scan ≡ None)
 
--- The clock is where it began plus all additions. Each stamp that it passed, up to the last stamp, was drawn by one seat, once.
+-- The clock is where it began plus all additions. Each stamp that it passed, up to the last stamp, was drawn by one
+-- seat, once.
 -- Each lane belongs to one seat
 pub record Clock (lanes from : ℕ) (s : State (Unit {0}) Watch) : Type 0 where
   pub clock : ℕ

@@ -39,8 +39,10 @@ abbrev pub HaveAllLanes : Stamps → List StampSeat → Type 0
 HaveAllLanes stamps seats =
     All (IsSeatOf stamps) seats × (sum_by (λ (s : StampSeat). length (watch s).lanes) seats ≡ lane_count stamps)
 
--- The answer at the end: where the clock began plus all additions of these seats, at most the last stamp. It is at least what each
--- knew, and each stamp above the beginning and at most the answer was drawn by one of these seats, once, and no other stamp was
+-- The answer at the end: where the clock began plus all additions of these seats, at most the last stamp. It is at
+-- least what each
+-- knew, and each stamp above the beginning and at most the answer was drawn by one of these seats, once, and no other
+-- stamp was
 abbrev pub ClockCloses : Stamps → List StampSeat → ℕ → Type 0
 ClockCloses stamps seats answer =
     (answer ≡ min (began_at stamps + sum_by (λ (s : StampSeat). (watch s).additions) seats) LAST_STAMP)

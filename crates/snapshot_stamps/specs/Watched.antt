@@ -81,7 +81,8 @@ AddsOne n v w =
 abbrev pub drawn_at : ℕ → Option ℕ
 drawn_at n = cond (nat_lt n LAST_STAMP) (Some (n + 1)) None
 
--- A draw: the clock is seen, and then one is added. Nothing is drawn exactly where the clock that was seen stands at the
+-- A draw: the clock is seen, and then one is added. Nothing is drawn exactly where the clock that was seen stands at
+-- the
 -- last stamp or above, or is raised above it
 abbrev pub DrawsStamp : Watch → Option ℕ → Watch → Type 0
 DrawsStamp v answer w =

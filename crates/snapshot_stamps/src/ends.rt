@@ -56,7 +56,8 @@ impl Stamps {
         requires rest { rest.me ≡ (newcomer (began_at self.now) rest.me.0.lanes, []) }
         requires some_lane { 0 < length rest.me.0.lanes }
         ensures first { IsSeatOf self.now result.0 × (watch result.0 ≡ first_lane rest.me.0) }
-        ensures others { (result.1.table_id ≡ self.now.table.shared.table_id) × (result.1.me ≡ (other_lanes rest.me.0, [])) }
+        ensures others { (result.1.table_id ≡ self.now.table.shared.table_id)
+            × (result.1.me ≡ (other_lanes rest.me.0, [])) }
     {
         let others = self.table.shared.split_seat::<LaneCut>(&mut rest);
         let first = StampSeat {

@@ -140,7 +140,8 @@ impl Stamps {
         requires note { IsNoteOf self.now note }
         ensures seat { IsSeatOf self.now seat.new }
         ensures met { watch seat.new ≡ joined (watch seat.old) (noted_watch note) }
-        ensures known { ((watch seat.old).known ≤ (watch seat.new).known) × ((noted_watch note).known ≤ (watch seat.new).known) }
+        ensures known { ((watch seat.old).known ≤ (watch seat.new).known)
+            × ((noted_watch note).known ≤ (watch seat.new).known) }
     {
         let Note { seat: noted } = note;
         self.table

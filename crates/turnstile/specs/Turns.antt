@@ -68,7 +68,8 @@ module _ {E : Type 0} where
       (i : ℕ) × (v : View E) × (n : ℕ) × (get_elem? views i ≡ some v) × (v.stage ≡ Inside n)
 
 -- what the rule says of one view
-pub record ViewFits {E : Type 0} (number : E → ℕ) (passes : ℕ) (log : List E) (drawn served : ℕ) (v : View E) : Type 0 where
+pub record ViewFits {E : Type 0} (number : E → ℕ) (passes : ℕ) (log : List E) (drawn served : ℕ)
+    (v : View E) : Type 0 where
   pub seen : BeginsWith log v.seen
   -- the entries of each number that it holds are those that it shows
   pub own : (k : ℕ) → IsAmong k v.numbers → entries_of number k log ≡ entries_of number k v.seen
@@ -92,7 +93,8 @@ Slot {T} stands log homes views =
     ((y : T) × (homes ≡ some (Some y) ∷ []) × stands y log × NobodyInside views)
     ⊎ ((homes ≡ none ∷ []) × SomebodyInside views)
 
--- The words are the tickets drawn, the tickets served and the entries of the log. Fewer than 2^32 tickets are out, so two
+-- The words are the tickets drawn, the tickets served and the entries of the log. Fewer than 2^32 tickets are out, so
+-- two
 -- equal words are one ticket
 pub record Kept {T E : Type 0} (stands : T → List E → Type 0) (number : E → ℕ) (passes : ℕ) (start : E)
     (s : State (Option T) (View E)) : Type 0 where
@@ -164,7 +166,8 @@ abbrev pub IsDone : {T E : Type 0} → (T → List E → Type 0) → Me (Option 
 IsDone {T} stands m =
     (n : ℕ) × (y : T) × (m.0.stage ≡ Inside n) × (m.1 ≡ (0, Some y) ∷ []) × stands y m.0.seen
 
--- The value at the end stands for a log that begins with what was seen. What was seen has all entries of each number from 1
+-- The value at the end stands for a log that begins with what was seen. What was seen has all entries of each number
+-- from 1
 -- on, and the log has no other entry of number 0 than the first
 abbrev pub ClosesWith : {T E : Type 0} → (T → List E → Type 0) → (E → ℕ) → E → T → List E → Type 0
 ClosesWith {T} {E} stands number start y seen =

@@ -10,7 +10,8 @@ use crate::lock::Turn;
 impl<T: Keeps> Turn<T> {
     /// The value. When the borrow ends, the turn has what was written through it.
     pub fn value(&mut self) -> &mut T
-        ensures* writes_back { sem 𝓛 (Lends (the_row T.row T.Entry.row T.Keeps) T.row self.entry result (with_value self.old)) }
+        ensures* writes_back { sem 𝓛 (Lends (the_row T.row T.Entry.row T.Keeps) T.row self.entry result
+            (with_value self.old)) }
         ensures value { result.now ≡ self.old.value }
     {
         &mut self.value

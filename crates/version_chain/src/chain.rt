@@ -100,7 +100,8 @@ impl Chain {
     #[tactic(auto, using(crate::proofs::ChainLemmas::falls_without_oldest, crate::proofs::ChainLemmas::version_at_cut))]
     pub fn cut(&mut self, floor: u64) -> u64
         ensures cut { self.new ≡ record self.old { versions = cut floor self.old.versions } }
-        ensures kept { (stamp : ℕ) → floor ≤ stamp → version_at stamp self.new.versions ≡ version_at stamp self.old.versions }
+        ensures kept { (stamp : ℕ) → floor ≤ stamp
+            → version_at stamp self.new.versions ≡ version_at stamp self.old.versions }
         ensures removed { result + length self.new.versions ≡ length self.old.versions }
     {
         let mut removed = 0;

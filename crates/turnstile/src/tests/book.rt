@@ -58,7 +58,8 @@ fn write<R: Wait>(
     requires mine { IsAmong by (numbers pass) }
     ensures pass { IsPassOf lock.now result.0 }
     ensures numbers { numbers result.0 ≡ numbers pass }
-    ensures written { IsTrue result.1 → entries_of writer by (seen result.0) ≡ entries_of writer by (seen pass) ++ (by, nth) ∷ [] }
+    ensures written { IsTrue result.1 → entries_of writer by (seen result.0)
+        ≡ entries_of writer by (seen pass) ++ (by, nth) ∷ [] }
 {
     let mut turn = lock.enter(rt, pass);
     let mark = match turn.value().marks.push((by, nth)) {
