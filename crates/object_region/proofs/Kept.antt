@@ -1,29 +1,5 @@
 -- What is kept of the regions, as one of them changes.
-use Rattle.std.proofs.Common.{◌≡◌, ℕ, ◌+◌, ◌*◌, ◌<◌, ◌≤◌, Bool, true, false, cond, Ordering, get_or, mul-le-mul_left, mul-le-mul_right, ◌^◌, List, [], ◌∷◌, length, ⊎_elim, refl, sym, ap, ◌∙◌, subst, arith}
-use Rattle.std.specs.Prelude.{Option, Some, None, IsSome, IfSome, is_some, nat_eq}
-use Rattle.std.specs.Ordering.{nat_cmp, is_eq, is_lt}
-use Rattle.std.specs.List.{All, list_any, IsDistinct}
-use Rattle.std.specs.List.Sorted.{IsPermutation, IsStrictlySortedBy}
-use Rattle.std.specs.Map.{lookup, keys_of}
-use Rattle.std.specs.BinaryHeap.{IsHeap, IsUpperBound, PopsGreatest}
-use Rattle.std.specs.declared.cmp.Reverse.{Reverse}
-use Rattle.std.proofs.lemmas.Bool.{cases_lt, cond_both, cond-true, cond-false, or_left, or_cases, eqb-true, eq-eqb, false≢true}
-use Rattle.std.proofs.Math.Path.{fun_ext}
-use Rattle.std.proofs.lemmas.Bool.Decides.{nat_tests}
-use Rattle.std.proofs.lemmas.List.{length-map}
-use Rattle.std.proofs.lemmas.List.Elements.{All-from_recursion, All-weaker, All-map}
-use Rattle.std.proofs.lemmas.List.Folds.{list_any_none}
-use Rattle.std.proofs.lemmas.List.Sorted.{IsPermutation-map, IsPermutation-to_front, list_any-IsPermutation}
-use Rattle.std.proofs.lemmas.Map.Keys.{IsDistinct-IsPermutation, IsDistinct-head, IsDistinct-tail, IsDistinct-push}
-use Rattle.std.proofs.lemmas.Map.Entries.{length-keys_of}
-use Rattle.std.proofs.lemmas.Map.Views.{All-keys_from_lookup, length-le_from_below}
-use Rattle.std.proofs.lemmas.Map.Steps.{length-le_from_keys}
-use Rattle.std.proofs.lemmas.Option.{MatchOption-at_some}
-use Rattle.std.specs.Cmp.{nat_eq_equiv, nat_cmp_total, eq_by_cmp_equiv}
-use Rattle.object_region.specs.declared.places.Made.{Made}
-use Rattle.object_region.specs.Flags.{IsFull}
-use Rattle.object_region.specs.Regions.{Regions, made_at, listed_in, numbers, IsRegion, IsLowestListed, IsLowestUnmade, IsKept}
-use Rattle.object_region.specs.Occupancy.{region_count}
+use Rattle.object_region.proofs.Words.{◌≡◌, ℕ, ◌+◌, ◌*◌, ◌<◌, ◌≤◌, Bool, true, false, cond, Ordering, get_or, mul-le-mul_left, mul-le-mul_right, ◌^◌, List, [], ◌∷◌, length, ⊎_elim, refl, sym, ap, ◌∙◌, subst, arith, Option, Some, None, IsSome, IfSome, is_some, nat_eq, nat_cmp, is_eq, is_lt, All, list_any, IsDistinct, IsPermutation, IsStrictlySortedBy, lookup, keys_of, IsHeap, IsUpperBound, PopsGreatest, Reverse, cases_lt, cond_both, cond-true, cond-false, or_left, or_cases, eqb-true, eq-eqb, false≢true, fun_ext, nat_tests, length-map, All-from_recursion, All-weaker, All-map, list_any_none, IsPermutation-map, IsPermutation-to_front, list_any-IsPermutation, IsDistinct-IsPermutation, IsDistinct-head, IsDistinct-tail, IsDistinct-push, length-keys_of, All-keys_from_lookup, length-le_from_below, length-le_from_keys, MatchOption-at_some, nat_eq_equiv, nat_cmp_total, eq_by_cmp_equiv, Made, IsFull, Regions, made_at, listed_in, numbers, IsRegion, IsLowestListed, IsLowestUnmade, IsKept, region_count}
 use Rattle.object_region.proofs.Keys.{put_both}
 
 abbrev pub highest : Reverse ℕ → Reverse ℕ → Ordering

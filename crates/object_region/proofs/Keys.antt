@@ -1,22 +1,5 @@
 -- What a map of made regions has at a number, which numbers it has, and what changes as one of them does.
-use Rattle.std.proofs.Common.{◌≡◌, ℕ, ◌<◌, true, false, cond, List, [], ◌∷◌, length, inl, inr, refl, sym, ap, ◌∙◌, subst, arith}
-use Rattle.std.specs.Prelude.{Option, Some, IsSome}
-use Rattle.std.specs.Option.{option_copied_mut}
-use Rattle.std.specs.Ordering.{nat_cmp, is_eq}
-use Rattle.std.specs.declared.cmp.Ordering.TheVariants.{Less}
-use Rattle.std.specs.List.{AllByRecursion}
-use Rattle.std.specs.List.Sorted.{IsStrictlySortedBy}
-use Rattle.std.specs.Map.{keys_of, set_value}
-use Rattle.std.specs.BTreeMap.{BTreeMap, insert_entry, is_at, WritesThrough}
-use Rattle.std.proofs.lemmas.Bool.{cond_both}
-use Rattle.std.proofs.lemmas.Bool.Decides.{nat_tests}
-use Rattle.std.proofs.lemmas.Map.Entries.{sum_by-set_value}
-use Rattle.std.proofs.lemmas.Map.Keys.{sorted_head, sorted_tail}
-use denote.MutBor.{MutBor}
-use Rattle.a1_base.specs.Lists.{IsAmong}
-use Rattle.object_region.specs.declared.places.Made.{Made}
-use Rattle.object_region.specs.Occupancy.{add_region}
-use Rattle.object_region.specs.Regions.{made_at, listed_count}
+use Rattle.object_region.proofs.Words.{◌≡◌, ℕ, ◌<◌, true, false, cond, List, [], ◌∷◌, length, inl, inr, refl, sym, ap, ◌∙◌, subst, arith, Option, Some, IsSome, option_copied_mut, nat_cmp, is_eq, Less, AllByRecursion, IsStrictlySortedBy, keys_of, set_value, BTreeMap, insert_entry, is_at, WritesThrough, cond_both, nat_tests, sum_by-set_value, sorted_head, sorted_tail, MutBor, IsAmong, Made, add_region, made_at, listed_count}
 
 -- a fact of what is at q once w was put at k
 pub put_both : (P : Option Made → Type 0) (k q : ℕ) (w : Made) (before after : Option Made) → after ≡ cond (is_eq (nat_cmp k q)) (Some w) before

@@ -1,3 +1,4 @@
+pub mod Words
 pub mod Keys
 pub mod Kept
 pub mod Occupied

@@ -1,12 +1,5 @@
 -- Which place comes next.
-use Rattle.std.proofs.Common.{◌≡◌, ℕ, ◌+◌, ◌*◌, ◌<◌, true, false, List, inl, inr, ⊎_elim, refl, sym, ap, ◌∙◌, arith}
-use Rattle.std.specs.Prelude.{Option, Some, None, IsSome, IfSome, is_some}
-use Rattle.std.proofs.lemmas.Bool.{false≢true}
-use Rattle.a1_base.specs.declared.place.Addr.{Addr}
-use Rattle.object_region.specs.declared.places.Made.{Made}
-use Rattle.object_region.specs.Flags.{IsFull, IsFirstFree}
-use Rattle.object_region.specs.Occupancy.{width, region_count, LeastFree, IsSpent}
-use Rattle.object_region.specs.Regions.{Regions, made_at, taken_in, occupancy_of, IsFullAt, IsLowestListed, IsLowestUnmade}
+use Rattle.object_region.proofs.Words.{◌≡◌, ℕ, ◌+◌, ◌*◌, ◌<◌, true, false, List, inl, inr, ⊎_elim, refl, sym, ap, ◌∙◌, arith, Option, Some, None, IsSome, IfSome, is_some, false≢true, Addr, Made, IsFull, IsFirstFree, width, region_count, LeastFree, IsSpent, Regions, made_at, taken_in, occupancy_of, IsFullAt, IsLowestListed, IsLowestUnmade}
 use Rattle.object_region.proofs.Keys.{made_from_In, In_from_made}
 use Rattle.object_region.proofs.Kept.{some_listed}
 

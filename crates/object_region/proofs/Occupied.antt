@@ -1,16 +1,6 @@
 -- What holds of the places of a node at all times.
-use Rattle.std.proofs.Common.{◌≡◌, ℕ, ◌<◌, true, List, [], ◌∷◌, Option, Some, None, refl, arith}
-use Rattle.std.specs.Ordering.{nat_cmp}
-use Rattle.std.specs.declared.cmp.Ordering.TheVariants.{Less}
-use Rattle.std.specs.List.{AllByRecursion}
-use Rattle.std.specs.List.Sorted.{IsStrictlySortedBy}
-use Rattle.std.specs.Map.{keys_of}
-use Rattle.std.specs.Prelude.{IsSome}
-use Rattle.std.proofs.lemmas.Bool.{and_parts, ltb-true}
-use Rattle.std.proofs.lemmas.Bool.Decides.{nat_tests}
-use Rattle.object_region.specs.declared.places.Made.{Made}
-use Rattle.object_region.specs.Occupancy.{width, IsBelow, Rises, IsOccupancy}
-use Rattle.object_region.specs.Regions.{Regions, occupancy_of, made_at, taken_in}
+use Rattle.object_region.proofs.Words.{◌≡◌, ℕ, ◌<◌, true, List, [], ◌∷◌, refl, arith, nat_cmp, Less, AllByRecursion, IsStrictlySortedBy, keys_of, IsSome, and_parts, ltb-true, nat_tests, Made, width, IsBelow, Rises, IsOccupancy, Regions, occupancy_of, made_at, taken_in}
+use Rattle.std.proofs.Common.{Option, Some, None}
 use Rattle.object_region.proofs.Keys.{In_from_made}
 
 below_all : (m : ℕ) (ms : List ℕ) → AllByRecursion (λ y. nat_cmp m y ≡ Less) ms → IsBelow m ms

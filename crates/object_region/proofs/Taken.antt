@@ -1,15 +1,5 @@
 -- What the occupancy is, as a place of a made region is taken or given back, or a region is made.
-use Rattle.std.proofs.Common.{◌≡◌, ℕ, Bool, false, cond, eqb, not, ◌||◌, ◌&&◌, List, refl, sym, ap, ◌∙◌, arith}
-use Rattle.std.proofs.Math.Path.{fun_ext}
-use Rattle.std.specs.Prelude.{Some}
-use Rattle.std.specs.Ordering.{nat_cmp, is_eq}
-use Rattle.std.specs.Map.{keys_of}
-use Rattle.std.proofs.lemmas.Bool.Decides.{nat_tests}
-use Rattle.a1_base.specs.declared.place.Addr.{Addr}
-use Rattle.object_region.specs.declared.places.Made.{Made}
-use Rattle.object_region.specs.Flags.{is_taken}
-use Rattle.object_region.specs.Occupancy.{Occupancy, same_addr, with_place, without_place}
-use Rattle.object_region.specs.Regions.{Regions, made_at, taken_in, occupancy_of, with_region}
+use Rattle.object_region.proofs.Words.{◌≡◌, ℕ, Bool, false, cond, eqb, not, ◌||◌, ◌&&◌, List, refl, sym, ap, ◌∙◌, arith, fun_ext, Some, nat_cmp, is_eq, keys_of, nat_tests, Addr, Made, is_taken, Occupancy, same_addr, with_place, without_place, Regions, made_at, taken_in, occupancy_of, with_region}
 use Rattle.object_region.proofs.Keys.{Changed, put_both, In_from_made, add_region_there, add_region_twice}
 
 abbrev occupied_by : ℕ → ℕ → List ℕ → (Addr → Bool) → Occupancy

@@ -1,5 +1,4 @@
-use Rattle.std.proofs.Common.{◌≡◌, ap, arith}
-use Rattle.object_region.specs.Occupancy.{Occupancy, width, region_count}
+use Rattle.object_region.proofs.Words.{◌≡◌, ap, arith, Occupancy, width, region_count}
 use Rattle.object_region.proofs.tests.takes_in_a_claimed_region_first.Goals as goal
 
 pub claim-requires-clause-place : goal.claim-requires-clause-place

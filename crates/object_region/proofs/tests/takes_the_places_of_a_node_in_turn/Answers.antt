@@ -1,12 +1,4 @@
-use Rattle.std.proofs.Common.{◌≡◌, true, ap, ◌∙◌, arith}
-use Rattle.std.specs.Prelude.{Result, Ok, Err, IfOk, OnErr}
-use Rattle.std.proofs.lemmas.Bool.{or_left, or_right}
-use Rattle.std.proofs.lemmas.Bool.Decides.{nat_tests}
-use Rattle.std.proofs.lemmas.Result.{IfOk-at_ok}
-use Rattle.a1_base.specs.declared.place.Addr.{Addr}
-use Rattle.object_region.specs.declared.places.TakeFault.{TakeFault}
-use Rattle.object_region.specs.Occupancy.{Occupancy, same_addr, with_place}
-use Rattle.object_region.specs.Regions.{occupancy_of}
+use Rattle.object_region.proofs.Words.{◌≡◌, true, ap, ◌∙◌, arith, Result, Ok, Err, IfOk, OnErr, or_left, or_right, nat_tests, IfOk-at_ok, Addr, TakeFault, Occupancy, same_addr, with_place, occupancy_of}
 use Rattle.object_region.proofs.tests.takes_the_places_of_a_node_in_turn.Goals as goal
 
 same_as_itself : (a : Addr) → same_addr a a ≡ true

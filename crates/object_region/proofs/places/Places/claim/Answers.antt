@@ -1,6 +1,4 @@
-use Rattle.std.proofs.Common.{◌∙◌, ap}
-use Rattle.object_region.specs.Occupancy.{with_place}
-use Rattle.object_region.specs.Regions.{Regions, occupancy_of}
+use Rattle.object_region.proofs.Words.{◌∙◌, ap, with_place, Regions, occupancy_of}
 use Rattle.object_region.proofs.Taken.{placed_twice}
 use Rattle.object_region.proofs.places.Places.claim.Goals as goal
 use Rattle.object_region.proofs.places.Places.claim.Goals.{then-not-contains_key+in_ok-make, else-not-contains_key}

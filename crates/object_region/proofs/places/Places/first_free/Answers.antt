@@ -1,9 +1,4 @@
-use Rattle.std.proofs.Common.{◌≡◌, sym, ap, ◌∙◌}
-use Rattle.std.specs.Prelude.{Some}
-use Rattle.std.specs.Option.{option_copied_mut}
-use Rattle.std.proofs.lemmas.Map.Steps.{set_value_same}
-use Rattle.object_region.specs.declared.places.Made.{Made}
-use Rattle.object_region.specs.Regions.{Regions, made_at}
+use Rattle.object_region.proofs.Words.{◌≡◌, sym, ap, ◌∙◌, Some, option_copied_mut, set_value_same, Made, Regions, made_at}
 use Rattle.object_region.proofs.places.Places.first_free.Goals as goal
 
 pub returns-clause-same : goal.returns-clause-same

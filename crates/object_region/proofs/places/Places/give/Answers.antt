@@ -1,8 +1,4 @@
-use Rattle.std.proofs.Common.{true, ap, ◌∙◌, refl, arith}
-use Rattle.std.specs.BinaryHeap.{heap_items, heap_capacity}
-use Rattle.std.proofs.lemmas.Result.{IfOk-at_ok}
-use Rattle.object_region.specs.declared.places.Made.{Made}
-use Rattle.object_region.specs.Regions.{listed_in}
+use Rattle.object_region.proofs.Words.{true, ap, ◌∙◌, refl, arith, heap_items, heap_capacity, IfOk-at_ok, Made, listed_in}
 use Rattle.object_region.proofs.Keys.{changed}
 use Rattle.object_region.proofs.Kept.{kept_listed, room_for}
 use Rattle.object_region.proofs.Taken.{given}

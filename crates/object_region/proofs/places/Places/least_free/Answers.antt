@@ -1,5 +1,4 @@
-use Rattle.std.proofs.Common.{subst}
-use Rattle.object_region.specs.Occupancy.{Occupancy, LeastFree, IsSpent}
+use Rattle.object_region.proofs.Words.{subst, Occupancy, LeastFree, IsSpent}
 use Rattle.object_region.proofs.Next.{least_made, least_new, all_spent}
 use Rattle.object_region.proofs.places.Places.least_free.Goals as goal
 

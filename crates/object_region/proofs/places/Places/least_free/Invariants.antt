@@ -1,5 +1,4 @@
-use Rattle.std.proofs.Common.{◌≡◌}
-use Rattle.object_region.specs.Regions.{occupancy_of, listed_count}
+use Rattle.object_region.proofs.Words.{◌≡◌, occupancy_of, listed_count}
 use Rattle.object_region.proofs.places.Places.least_free.Given as goal
 
 abbrev pub invariant-loop-region : goal.invariant-loop-region

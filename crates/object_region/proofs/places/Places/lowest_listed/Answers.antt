@@ -1,6 +1,5 @@
-use Rattle.std.proofs.Common.{◌<◌, length, ltb-true, sym, subst}
-use Rattle.std.specs.BinaryHeap.{heap_items}
-use Rattle.object_region.specs.Regions.{Regions, IsLowestListed}
+use Rattle.object_region.proofs.Words.{◌<◌, length, sym, subst, heap_items, Regions, IsLowestListed}
+use Rattle.std.proofs.Common.{ltb-true}
 use Rattle.object_region.proofs.Kept.{top_is_lowest}
 use Rattle.object_region.proofs.places.Places.lowest_listed.Goals as goal
 

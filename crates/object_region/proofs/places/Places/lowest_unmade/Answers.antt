@@ -1,6 +1,4 @@
-use Rattle.std.proofs.Common.{◌≡◌, ◌+◌, ◌*◌, arith, sym, subst}
-use Rattle.object_region.specs.Occupancy.{region_count}
-use Rattle.object_region.specs.Regions.{Regions, IsLowestUnmade}
+use Rattle.object_region.proofs.Words.{◌≡◌, ◌+◌, ◌*◌, arith, sym, subst, region_count, Regions, IsLowestUnmade}
 use Rattle.object_region.proofs.Kept.{next_is_lowest}
 use Rattle.object_region.proofs.places.Places.lowest_unmade.Goals as goal
 

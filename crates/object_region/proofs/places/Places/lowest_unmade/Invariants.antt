@@ -1,7 +1,4 @@
-use Rattle.std.proofs.Common.{◌≡◌, ◌-◌}
-use Rattle.std.specs.BinaryHeap.{heap_items, heap_capacity}
-use Rattle.a1_base.specs.declared.limits.TheConstants.{REGION_LIMIT}
-use Rattle.object_region.specs.Regions.{IsKept}
+use Rattle.object_region.proofs.Words.{◌≡◌, ◌-◌, heap_items, heap_capacity, REGION_LIMIT, IsKept}
 use Rattle.object_region.proofs.places.Places.lowest_unmade.Given as goal
 
 abbrev pub invariant-loop-self : goal.invariant-loop-self

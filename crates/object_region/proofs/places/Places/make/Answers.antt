@@ -1,12 +1,4 @@
-use Rattle.std.proofs.Common.{ℕ, ◌∷◌, true, sym, ap, ◌∙◌, refl, subst, arith}
-use Rattle.std.specs.List.Sorted.{IsPermutation}
-use Rattle.std.specs.BinaryHeap.{heap_items, heap_capacity, IsHeap}
-use Rattle.std.specs.Map.{keys_of}
-use Rattle.std.specs.declared.cmp.Reverse.{Reverse}
-use Rattle.std.proofs.lemmas.Result.{IfOk-at_ok}
-use Rattle.object_region.specs.declared.places.Made.{Made}
-use Rattle.object_region.specs.Occupancy.{add_region}
-use Rattle.object_region.specs.Regions.{Regions, IsRegion, made_at, listed_in, taken_in}
+use Rattle.object_region.proofs.Words.{ℕ, ◌∷◌, true, sym, ap, ◌∙◌, refl, subst, arith, IsPermutation, heap_items, heap_capacity, IsHeap, keys_of, Reverse, IfOk-at_ok, Made, add_region, Regions, IsRegion, made_at, listed_in, taken_in}
 use Rattle.object_region.proofs.Keys.{keys_insert_entry}
 use Rattle.object_region.proofs.Kept.{highest, listed_fit, kept_listed, one_more}
 use Rattle.object_region.proofs.Taken.{unchanged}

@@ -1,4 +1,4 @@
-use Rattle.object_region.specs.declared.places.Made.{Made}
+use Rattle.object_region.proofs.Words.{Made}
 use Rattle.object_region.proofs.Keys.{changed}
 use Rattle.object_region.proofs.Taken.{marked}
 use Rattle.object_region.proofs.places.Places.mark.Goals as goal

@@ -1,6 +1,4 @@
-use Rattle.std.proofs.Common.{arith, subst}
-use Rattle.object_region.specs.Occupancy.{IsOccupancy}
-use Rattle.object_region.specs.Regions.{Regions, occupancy_of}
+use Rattle.object_region.proofs.Words.{arith, subst, IsOccupancy, Regions, occupancy_of}
 use Rattle.object_region.proofs.Kept.{few_made}
 use Rattle.object_region.proofs.Occupied.{occupied}
 use Rattle.object_region.proofs.places.Places.regions.Goals as goal

@@ -1,5 +1,4 @@
-use Rattle.std.proofs.Common.{◌≡◌, false, sym, subst}
-use Rattle.object_region.specs.Occupancy.{Occupancy}
+use Rattle.object_region.proofs.Words.{◌≡◌, false, sym, subst, Occupancy}
 use Rattle.object_region.proofs.places.Places.take.Goals as goal
 
 pub claim-requires-clause-free : goal.claim-requires-clause-free

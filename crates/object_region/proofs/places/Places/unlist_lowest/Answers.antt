@@ -1,7 +1,4 @@
-use Rattle.std.proofs.Common.{◌<◌, false, sym, ap, ◌∙◌, refl, subst, arith}
-use Rattle.std.specs.BinaryHeap.{heap_items, heap_capacity}
-use Rattle.object_region.specs.declared.places.Made.{Made}
-use Rattle.object_region.specs.Regions.{Regions, listed_in, listed_count, taken_in, IsFullAt, IsLowestListed}
+use Rattle.object_region.proofs.Words.{◌<◌, false, sym, ap, ◌∙◌, refl, subst, arith, heap_items, heap_capacity, Made, Regions, listed_in, listed_count, taken_in, IsFullAt, IsLowestListed}
 use Rattle.object_region.proofs.Keys.{changed, fewer_listed}
 use Rattle.object_region.proofs.Kept.{kept_struck, some_to_strike, full_here}
 use Rattle.object_region.proofs.Taken.{unchanged}

@@ -1,7 +1,4 @@
-use Rattle.std.proofs.Common.{◌≡◌, ◌<◌, ◌-◌, ℕ, true, vec_len}
-use Rattle.a1_base.specs.declared.limits.TheConstants.{REGION_WIDTH}
-use Rattle.object_region.specs.Occupancy.{width}
-use Rattle.object_region.specs.Flags.{is_taken}
+use Rattle.object_region.proofs.Words.{◌≡◌, ◌<◌, ◌-◌, ℕ, true, vec_len, REGION_WIDTH, width, is_taken}
 use Rattle.object_region.proofs.region.Region.first_free.Given as goal
 
 abbrev pub invariant-loop-self : goal.invariant-loop-self
