@@ -1,5 +1,6 @@
 -- That what a tree stands for has no float.
 use Rattle.std.proofs.Common.{◌≡◌, ℕ, ℤ, pos, negsuc, List, [], ◌∷◌, map, Bool, true, false, ◌||◌, refl, ap, ◌∙◌, subst, nat_cmp, Ordering, Less, Equal, Greater}
+use Rattle.std.proofs.lemmas.Bool.{or_parts}
 use Rattle.std.specs.Ordering.{match_ordering}
 use Rattle.std.specs.Cmp.Lexicographic.{slice_cmp}
 use Rattle.serde_json.specs.Data.{Data, Members, no_members, member, put}
@@ -17,10 +18,6 @@ IsWhole json = has_float (data_of json) ≡ false
 abbrev Whole : Type 0
 Whole = (json : Json) × IsWhole json
 
-neither : (a b : Bool) → (a || b) ≡ false → (a ≡ false) × (b ≡ false)
-neither true b h = cc
-neither false b h = (refl, h)
-
 integer_whole : (z : ℤ) → is_float (of_integer z) ≡ false
 integer_whole (pos n) = refl
 integer_whole (negsuc n) = refl
@@ -31,7 +28,7 @@ put_whole name d no_members none rest = rw none refl
 put_whole name d (member other e ms) none rest = at (slice_cmp nat_cmp name other) (put_whole name d ms none both.1)
   where
     both : (has_float e ≡ false) × (members_have_float ms ≡ false)
-    both = neither (has_float e) (members_have_float ms) rest
+    both = or_parts (has_float e) (members_have_float ms) rest
 
     at : (o : Ordering) → members_have_float (put name d ms) ≡ false
         → members_have_float (match_ordering o (member name d (member other e ms)) (member other d ms) (member other e (put name d ms))) ≡ false

@@ -8,7 +8,8 @@ use Rattle.farm_core.proofs.Words.{StandsOpen, in_list, OpenStands, SlotStands, 
 use Rattle.farm_node.specs.declared.entry.Entry.TheVariants as entry
 use Rattle.farm_core.specs.declared.event.Event.TheVariants as event
 use Rattle.farm_core.specs.declared.event.Answer.TheVariants as answer
-use Rattle.farm_core.proofs.Held.{HasLock, HoldingCell}
+use Rattle.farm_node.proofs.Decided.{HasLock}
+use Rattle.farm_core.proofs.Held.{HoldingCell}
 use Rattle.farm_core.proofs.Good.{Good, NoneOpen, self_moved, other_stays}
 use Rattle.farm_core.proofs.Changes.{good}
 use Rattle.farm_core.proofs.Farming.{none_of, reached_more, slot_of, stands_set, each_added, held_each}

@@ -9,7 +9,8 @@ use Rattle.farm_node.specs.declared.entry.Entry.TheVariants as entry
 use Rattle.farm_node.proofs.Addresses.{addr_eq}
 use Rattle.farm_node.proofs.Sound.{txn_self}
 use Rattle.farm_core.proofs.Lists.{replay_more}
-use Rattle.farm_core.proofs.Held.{HasLock, Holds, holds_held}
+use Rattle.farm_node.proofs.Decided.{HasLock}
+use Rattle.farm_core.proofs.Held.{Holds, holds_held}
 use Rattle.farm_core.proofs.Good.{Good, Grown, home_low, set_at, one_grown, grown_at, self_moved, other_stays}
 use Rattle.farm_core.proofs.Runs.{good_run}
 use Rattle.farm_core.proofs.NodeLists.{plains_index, plains_set, plains_other}

@@ -13,7 +13,8 @@ use Rattle.farm_node.proofs.Sound.{txn_self}
 use Rattle.farm_node.proofs.Steps.{Askable, askable}
 use Rattle.farm_node.proofs.ReadsStay.{set_self}
 use Rattle.farm_core.proofs.Lists.{replay_more}
-use Rattle.farm_core.proofs.Held.{HasLock, Holds, HoldingCell, holds_held}
+use Rattle.farm_node.proofs.Decided.{HasLock}
+use Rattle.farm_core.proofs.Held.{Holds, HoldingCell, holds_held}
 use Rattle.farm_core.proofs.Good.{Listed, SameIn, Good, home_low, base_loading_over, good_adding}
 use Rattle.farm_core.proofs.Phases.{sane_next, sane_reading, started, open_stage, good_staged, good_refused, good_locked, good_drawn}
 

@@ -9,14 +9,9 @@ use Rattle.farm_node.proofs.Addresses.{and_left, addr_eq}
 use Rattle.farm_node.proofs.Sound.{txn_self}
 use Rattle.farm_node.proofs.Steps.{Keeps}
 use Rattle.farm_node.proofs.Chains.{newest_cut}
+use Rattle.farm_node.proofs.Decided.{HasLock}
 use Rattle.farm_node.proofs.Stories.{Below}
 use Rattle.farm_core.proofs.Low.{BoundLow}
-
--- the transaction has the lock
-
-abbrev pub HasLock : TxnId → Option Hold → Type 0
-HasLock t None = ⊥
-HasLock t (Some k) = k.by ≡ t
 
 abbrev pub Holds : TxnId → Option Cell → Type 0
 Holds t None = ⊥

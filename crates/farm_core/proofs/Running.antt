@@ -77,9 +77,3 @@ IsNew slot = (slot.begins ≡ 0) × (slot.open ≡ None)
 pub record NewTo (number : ℕ) (slots : List Slot) : Type 0 where
   pub made : length slots ≡ number
   pub each : (k : ℕ) (d : Slot) → k < number → IsNew (get_or slots k d)
-
--- the core
-
-pub on_err : {T E : Type 0} (r : Result T E) (P : Type 0) → P → OnErr r P
-on_err (Ok x) P p = tt
-on_err (Err e) P p = p

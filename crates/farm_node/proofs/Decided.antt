@@ -12,12 +12,12 @@ use Rattle.farm_node.proofs.Stories.{WaitsLock, Waits, TellsAt, Stands, stands, 
 use Rattle.farm_node.proofs.Adds.{below_before}
 use Rattle.farm_node.proofs.ReadsStay.{Barred, Fixed, fixed, look_bars}
 
--- the transaction has the lock, or no put at w or below comes any more
-
-abbrev HasLock : TxnId → Option Hold → Type 0
+-- the transaction has the lock
+abbrev pub HasLock : TxnId → Option Hold → Type 0
 HasLock t None = ⊥
 HasLock t (Some k) = k.by ≡ t
 
+-- it has, or no put at w or below comes any more
 abbrev Keeping : TxnId → ℕ → Option Cell → ℕ → Type 0
 Keeping t w None past = w ≤ past
 Keeping t w (Some c) past = HasLock t c.lock ⊎ (w ≤ c.bound)

@@ -30,6 +30,7 @@ loading_front p objects now later yielded rest l same =
 pub loading_done : (p : NodeState) (objects : List (Addr × Bytes)) (now : NodeState) (yielded : List (Addr × Bytes)) → IsLoading p objects now yielded [] → now ≡ with_objects p objects
 loading_done p objects now yielded l = l.state ∙ ap (with_objects p) (sym (l.all ∙ append-nil yielded))
 
+-- what holds holds after an error
 pub on_err : {T E : Type 0} (r : Result T E) (P : Type 0) → P → OnErr r P
 on_err (Ok x) P p = tt
 on_err (Err e) P p = p

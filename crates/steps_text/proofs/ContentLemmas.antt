@@ -4,7 +4,7 @@ use Rattle.std.specs.Prelude.{◌||◌, slice_index}
 use Rattle.std.specs.List.{list_any}
 use Rattle.std.specs.Char.{is_ascii_uppercase}
 use Rattle.std.specs.Result.{result_unwrap_or}
-use Rattle.std.proofs.lemmas.Bool.{false≢true}
+use Rattle.std.proofs.lemmas.Bool.{false≢true, or_from, or_parts}
 use Rattle.std.proofs.lemmas.Bool.Decides.{nat_tests}
 use Rattle.hex.specs.Hex.{lower_digits, encode_lower, encode_with, decode_of, decode_pairs, pair_value, value_at, digit_or_error, hex_digit_value, ◌>>=◌}
 use Rattle.hex.specs.declared.error.FromHexError.{FromHexError}
@@ -13,22 +13,11 @@ use Rattle.steps_text.specs.Reading.{Refuses, IsContent}
 
 -- ---- letters
 
-neither : (a b : Bool) → a ≡ false → b ≡ false → (a || b) ≡ false
-neither a b h k = rw (h, k)
-
-first : (a b : Bool) → (a || b) ≡ false → a ≡ false
-first false b h = refl
-first true b h = h
-
-second : (a b : Bool) → (a || b) ≡ false → b ≡ false
-second false b h = h
-second true b h = cc
-
 -- a test that fails of all items of a list, and of what stands past its end
 fails_at : (p : ℕ → Bool) (t : List ℕ) (v : ℕ) → list_any p t ≡ false → p 0 ≡ false → p (slice_index t v) ≡ false
 fails_at p [] v h k = k
-fails_at p (x ∷ t) zero h k = first (p x) (list_any p t) h
-fails_at p (x ∷ t) (suc v) h k = fails_at p t v (second (p x) (list_any p t) h) k
+fails_at p (x ∷ t) zero h k = (or_parts (p x) (list_any p t) h).0
+fails_at p (x ∷ t) (suc v) h k = fails_at p t v (or_parts (p x) (list_any p t) h).1 k
 
 lower_digit : (v : ℕ) → is_ascii_uppercase (slice_index lower_digits v) ≡ false
 lower_digit v = fails_at is_ascii_uppercase lower_digits v refl refl
@@ -36,7 +25,7 @@ lower_digit v = fails_at is_ascii_uppercase lower_digits v refl refl
 encoding_lower : (bytes : List ℕ) → list_any is_ascii_uppercase (encode_lower bytes) ≡ false
 unfolding encode_with
 encoding_lower [] = refl
-encoding_lower (b ∷ bytes) = neither _ _ (lower_digit (b / 16)) (neither _ _ (lower_digit (b % 16)) (encoding_lower bytes))
+encoding_lower (b ∷ bytes) = or_from _ _ (lower_digit (b / 16)) (or_from _ _ (lower_digit (b % 16)) (encoding_lower bytes))
 
 -- ---- digits
 
@@ -74,14 +63,14 @@ encode_back i (a ∷ b ∷ rest) bytes h lower =
     let sum : high.0 * 16 + low.0 ≡ byte.0 = ap (λ (r : Result ℕ FromHexError). result_unwrap_or r 0) low.2 in
     let high_read = digit_read a i high.0 (hex_digit_value a) high.1 in
     let low_read = digit_read b (i + 1) low.0 (hex_digit_value b) low.1 in
-    let behind = second (is_ascii_uppercase a) (is_ascii_uppercase b || list_any is_ascii_uppercase rest) lower in
+    let behind = (or_parts (is_ascii_uppercase a) (is_ascii_uppercase b || list_any is_ascii_uppercase rest) lower).1 in
     let high_small = small_digit a high.0 high_read in
     let low_small = small_digit b low.0 low_read in
     let upper_half : byte.0 / 16 ≡ high.0 = omega arith in
     let lower_half : byte.0 % 16 ≡ low.0 = omega arith in
-    let front : slice_index lower_digits (byte.0 / 16) ≡ a = ap (slice_index lower_digits) upper_half ∙ digit_back a high.0 high_read (first (is_ascii_uppercase a) (is_ascii_uppercase b || list_any is_ascii_uppercase rest) lower) in
-    let back : slice_index lower_digits (byte.0 % 16) ≡ b = ap (slice_index lower_digits) lower_half ∙ digit_back b low.0 low_read (first (is_ascii_uppercase b) (list_any is_ascii_uppercase rest) behind) in
-    let tail : encode_lower more.0 ≡ rest = encode_back (i + 2) rest more.0 more.1 (second (is_ascii_uppercase b) (list_any is_ascii_uppercase rest) behind) in
+    let front : slice_index lower_digits (byte.0 / 16) ≡ a = ap (slice_index lower_digits) upper_half ∙ digit_back a high.0 high_read (or_parts (is_ascii_uppercase a) (is_ascii_uppercase b || list_any is_ascii_uppercase rest) lower).0 in
+    let back : slice_index lower_digits (byte.0 % 16) ≡ b = ap (slice_index lower_digits) lower_half ∙ digit_back b low.0 low_read (or_parts (is_ascii_uppercase b) (list_any is_ascii_uppercase rest) behind).0 in
+    let tail : encode_lower more.0 ≡ rest = encode_back (i + 2) rest more.0 more.1 (or_parts (is_ascii_uppercase b) (list_any is_ascii_uppercase rest) behind).1 in
     ap encode_lower (sym whole) ∙ cc
 
 -- ---- an object

@@ -2,7 +2,7 @@ use Rattle.std.proofs.Common.{◌≡◌, [], List, length, refl, sym, subst, ap,
 use Rattle.std.proofs.lemmas.List.{take_all}
 use Rattle.farm_core.proofs.Words.{Event, Runs, Stands}
 use Rattle.farm_core.specs.Cores.{Shown, RanFront}
-use Rattle.farm_core.proofs.Running.{on_err}
+use Rattle.farm_node.proofs.Loads.{on_err}
 use Rattle.farm_core.proofs.run.Core.run.Goals as goal
 
 pub returns-in_err-answers-clause-err : goal.returns-in_err-answers-clause-err
