@@ -5,6 +5,7 @@
 #![tactic(auto)]
 
 mod bin;
+mod fronts;
 mod gate;
 mod in_memory;
 mod limits;
@@ -12,6 +13,10 @@ mod outside;
 mod place;
 
 pub use bin::{Bin, Txt};
+pub use fronts::{
+    ReadFault, front_block, front_byte, front_part, front_u32, front_u64, push_u32, push_u64, u32_at,
+    u64_at,
+};
 pub use gate::{Gate, NoGate, Point};
 pub use in_memory::{MemSink, MemSource};
 pub use limits::{
