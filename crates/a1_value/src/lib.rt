@@ -1,11 +1,23 @@
-//! Values of attributes, and their order.
+//! Values of attributes: their order, their encoding, and the keys that stand in their order.
 //!
 //! A value is a number, a text or a list of bytes. The layer knows neither schemas nor JSON; everything that is kept
 //! in key order rests on its order.
 #![tactic(auto)]
 
+mod decoding;
+mod encoding;
+mod fault;
+mod given;
+mod keys;
+mod laws;
 mod order;
 mod value;
 
+pub use decoding::{decode, front_value};
+pub use encoding::{encode, push_value};
+pub use fault::ValueFault;
+pub use given::Given;
+pub use keys::{front_key, key_bytes, push_key};
+pub use laws::keys_in_order;
 pub use order::compare;
 pub use value::Value;
