@@ -106,19 +106,19 @@ module _ {A B : Type 0} (p : Front A) (s : A → List ℕ) (P : A → Type 0) (f
         let one = first.takes bytes a fits read in
         let two = second.takes a.1 b (bytes_behind (s a.0) a.1 (subst IsBytes one.1 fits)) read' in
         subst (λ (y : (A × B) × List ℕ). (P y.0.0 × Q y.0.1) × (bytes ≡ (s y.0.0 ++ t y.0.1) ++ y.1)) same
-            ((one.0, two.0), one.1 ∙ (ap (λ z. s a.0 ++ z) two.1 ∙ sym (append_assoc (s a.0) (t b.0) b.1)))))
+        ((one.0, two.0), one.1 ∙ (ap (λ z. s a.0 ++ z) two.1 ∙ sym (append_assoc (s a.0) (t b.0) b.1)))))
 
     again : (x : A × B) (rest : List ℕ) → P x.0 × Q x.1 → both p q ((s x.0 ++ t x.1) ++ rest) ≡ Some (x, rest)
     again x rest h = ap (both p q) (append_assoc (s x.0) (t x.1) rest) ∙ rw (first.again x.0 (t x.1 ++ rest) h.0, second.again x.1 rest h.1) refl
 
   -- to and from lead to one another and back
-  pub made_exact : (to : A → B) (from : B → A) → ((a : A) → from (to a) ≡ a) → ((b : B) → P (from b) → to (from b) ≡ b) → Exact (made to p) (λ b. s (from b)) (λ b. P (from b))
+  pub made_exact : (to : A → B) (from : B → A) → ((a : A) → P a → from (to a) ≡ a) → ((b : B) → P (from b) → to (from b) ≡ b) → Exact (made to p) (λ b. s (from b)) (λ b. P (from b))
   made_exact to from back there = record { takes = takes; again = again } where
     takes : (bytes : List ℕ) (b : B × List ℕ) → IsBytes bytes → made to p bytes ≡ Some b → P (from b.0) × (bytes ≡ s (from b.0) ++ b.1)
     takes bytes b fits e = mapped_some (λ a. (to a.0, a.1)) (p bytes) b e (λ a read same.
         let one : P a.0 × (bytes ≡ s a.0 ++ a.1) = first.takes bytes a fits read in
         subst (λ (y : B × List ℕ). P (from y.0) × (bytes ≡ s (from y.0) ++ y.1)) same
-            (subst (λ (z : A). P z × (bytes ≡ s z ++ a.1)) (sym (back a.0)) one))
+        (subst (λ (z : A). P z × (bytes ≡ s z ++ a.1)) (sym (back a.0 one.0)) one))
 
     again : (b : B) (rest : List ℕ) → P (from b) → made to p (s (from b) ++ rest) ≡ Some (b, rest)
     again b rest h = ap (option_map (λ (a : A × List ℕ). (to a.0, a.1))) (first.again (from b) rest h) ∙ ap (λ (z : B). Some (z, rest)) (there b h)
@@ -145,7 +145,7 @@ module _ {A : Type 0} (p : Front A) (s : A → List ℕ) (P : A → Type 0) (fir
         let one = first.takes bytes a fits read in
         let two = takes n a.1 b (bytes_behind (s a.0) a.1 (subst IsBytes one.1 fits)) read' in
         subst (λ (y : List A × List ℕ). (AllByRecursion P y.0 × (length y.0 ≡ suc n)) × (bytes ≡ flat_map s y.0 ++ y.1)) same
-            (((one.0, two.0.0), ap suc two.0.1), one.1 ∙ (ap (λ z. s a.0 ++ z) two.1 ∙ sym (append_assoc (s a.0) (flat_map s b.0) b.1)))))
+        (((one.0, two.0.0), ap suc two.0.1), one.1 ∙ (ap (λ z. s a.0 ++ z) two.1 ∙ sym (append_assoc (s a.0) (flat_map s b.0) b.1)))))
 
     again : (n : ℕ) (xs : List A) (rest : List ℕ) → AllByRecursion P xs × (length xs ≡ n) → several n p (flat_map s xs ++ rest) ≡ Some (xs, rest)
     again zero [] rest h = refl
@@ -204,7 +204,7 @@ inside_exact {A} size t Q outer read s P inner = record { takes = takes; again =
       let within = bytes_behind (t (length b.0)) b.0 (bytes_front (t (length b.0) ++ b.0) b.1 (subst IsBytes one.1 fits)) in
       let two = inner.takes b.0 x within found in
       subst (λ (y : A × List ℕ). (P y.0 × Q (length (s y.0))) × (bytes ≡ (t (length (s y.0)) ++ s y.0) ++ y.1)) same
-          (subst (λ (z : List ℕ). (P x × Q (length z)) × (bytes ≡ (t (length z) ++ z) ++ b.1)) two.1 ((two.0, one.0), one.1))))
+      (subst (λ (z : List ℕ). (P x × Q (length z)) × (bytes ≡ (t (length z) ++ z) ++ b.1)) two.1 ((two.0, one.0), one.1))))
 
   again : (a : A) (rest : List ℕ) → P a × Q (length (s a)) → inside (sized size) read ((t (length (s a)) ++ s a) ++ rest) ≡ Some (a, rest)
   again a rest h = rw (around.again (s a) rest h.1, inner.again a h.0) refl
