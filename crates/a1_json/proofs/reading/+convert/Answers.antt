@@ -1,4 +1,4 @@
-use Rattle.std.proofs.Common.{◌≡◌, ◌∙◌, sym, refl, string_bytes}
+use Rattle.std.proofs.Common.{◌∙◌, sym, refl}
 use Rattle.std.proofs.lemmas.List.Folds.{list_all-append}
 use Rattle.a1_json.proofs.OrderLemmas.{list_ordered, object_ordered, names_of_map, one_named}
 use Rattle.a1_json.proofs.TreeLemmas.{none_behind, one_behind}
@@ -12,18 +12,19 @@ convert-returns-in_ok-convert_members-in-Object-clause-order t c = object_ordere
 
 pub convert_members-loop-name-init : goal.convert_members-loop-name-init
 convert_members-loop-name-init t c =
-    let start = c.into_iter-name-iterator.ensures.into_iter_gives ∙ c.iter-name-items.ensures.rest in
+    let given = c.into_iter-name-iterator.ensures.into_iter_gives in
+    let empty = c.from_vec-members.ensures ∙ c.in_ok-with_capacity.ensures.items in
     record {
-      tree = rw (c.new-members.ensures, start) (none_behind _);
-      names = rw (c.new-members.ensures, start) (names_of_map _ c.iter-name-items.ensures.ordered);
-      order = rw c.new-members.ensures refl;
+      tree = rw (empty, given.0) (none_behind _);
+      names = rw (empty, given.0) (names_of_map _ given.5);
+      order = rw empty refl;
     }
 
 pub convert_members-loop-name-preserved : goal.convert_members-loop-name-preserved
 convert_members-loop-name-preserved t c =
     let steps = c.in-Some.ensures.steps in
     let done = c.in_ok-push.ensures.ok in
-    let name : c.in_ok-name.name ≡ string_bytes c.in-Some.name.now = c.in_ok-name.ensures ∙ c.as_str.ensures.value in
+    let name = c.from_string.ensures in
     let left = rw steps at c.loop-name.invariant.names in
     record {
       tree = c.loop-name.invariant.tree ∙ rw (steps, c.in_ok-value.ensures.ok, done, name) (one_behind _ _ _);
