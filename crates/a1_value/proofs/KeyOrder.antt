@@ -1,10 +1,10 @@
 -- Keys are in byte order as their values are in theirs, whatever stands behind them.
-use Rattle.std.proofs.Common.{◌≡◌, ℕ, zero, suc, ◌+◌, ◌*◌, ◌/◌, ◌%◌, ◌^◌, ◌<◌, ◌≤◌, ℤ, pos, negsuc, List, [], ◌∷◌, ◌++◌, Bool, true, false, sym, refl, ap, ◌∙◌, arith, append-nil, Ordering, Less, Equal, Greater, nat_cmp, int_cmp, pow-suc, mod-lt, mul-le-mul_right, suc-mul, ◌<ℤ◌}
+use Rattle.std.proofs.Common.{◌≡◌, ℕ, zero, suc, ◌+◌, ◌*◌, ◌/◌, ◌%◌, ◌^◌, ◌<◌, ◌≤◌, ℤ, pos, negsuc, List, [], ◌∷◌, ◌++◌, sym, refl, ap, ◌∙◌, arith, append-nil, Ordering, Less, Equal, Greater, nat_cmp, int_cmp, pow-suc, mod-lt, mul-le-mul_right, suc-mul, ◌<ℤ◌}
 use Rattle.std.proofs.Math.Arith.{mod-mul}
 use Rattle.std.proofs.Math.Nat.{div-one, mod-eq_of_lt, mod-one, pow-succ'}
 use Rattle.std.specs.Int.{w64, to_be_bytes, byte_at, bytes_high_first}
 use Rattle.std.specs.Int.RustNames.{FitsSigned}
-use Rattle.std.specs.Cmp.{nat_cmp_is, ranks, int_ranks, nat_cmp_total, tied_itself}
+use Rattle.std.specs.Cmp.{nat_cmp_is, ranks, int_ranks}
 use Rattle.std.specs.Ordering.{ordering_then, MatchOrdering}
 use Rattle.std.proofs.lemmas.Int.{ints}
 use Rattle.a1_value.specs.declared.value.Value.{Value}

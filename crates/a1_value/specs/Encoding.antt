@@ -1,5 +1,5 @@
 -- Values as bytes, and as keys in the order of values.
-use Rattle.std.specs.Prelude.{◌≡◌, ℕ, zero, suc, ◌≤◌, ◌+◌, ◌-◌, ℤ, pos, negsuc, List, [], ◌∷◌, ◌++◌, length, Bool, nat_lt, ◌==◌, if◌then◌else◌, Option, Some, None, option_map, option_and_then, ok_or, Result, Ok, Err, IsTrue, ⊤}
+use Rattle.std.specs.Prelude.{◌≡◌, ℕ, zero, suc, ◌≤◌, ◌+◌, ◌-◌, ℤ, pos, negsuc, List, [], ◌∷◌, ◌++◌, length, nat_lt, ◌==◌, if◌then◌else◌, Option, Some, None, option_map, option_and_then, ok_or, Result, Ok, Err, IsTrue, ⊤}
 use Rattle.std.specs.Int.{w32, w64, to_be_bytes, cast_unsigned, cast_signed}
 use Rattle.std.specs.Int.RustNames.{FitsSigned}
 use Rattle.std.specs.Str.{is_utf8}
@@ -95,18 +95,22 @@ key_bytes (Int n) = 1 ∷ to_be_bytes w64 (turned_over n)
 key_bytes (Text t) = 2 ∷ escaped t ++ 0 ∷ 0 ∷ []
 key_bytes (Bytes b) = 3 ∷ escaped b ++ 0 ∷ 0 ∷ []
 
-abbrev pub behind : ℕ → Option (List ℕ × List ℕ) → Option (List ℕ × List ℕ)
-behind b read = option_map (λ p. (b ∷ p.0, p.1)) read
+-- the next of escaped bytes, or none at their end, and the bytes behind it
+abbrev pub next_escaped : Front (Option ℕ)
+next_escaped bytes = option_and_then (λ a.
+    if a.0 == 0 then option_and_then (λ b.
+    if b.0 == 0 then Some (None, b.1) else if b.0 == 255 then Some (Some 0, b.1) else None) (byte a.1)
+    else Some (Some a.0, a.1)) (byte bytes)
+
+-- a byte in front of what more is read, or the end
+abbrev pub going_on : Front (List ℕ) → Option ℕ → Front (List ℕ)
+going_on more None rest = Some ([], rest)
+going_on more (Some b) rest = option_map (λ p. (b ∷ p.0, p.1)) (more rest)
 
 -- at most so many bytes that stand escaped in front of 00 00
 unfoldable pub unescaped : ℕ → Front (List ℕ)
-unescaped room [] = None
-unescaped room (zero ∷ []) = None
-unescaped room (zero ∷ zero ∷ rest) = Some ([], rest)
-unescaped zero (zero ∷ suc b ∷ rest) = None
-unescaped (suc room) (zero ∷ suc b ∷ rest) = if suc b == 255 then behind 0 (unescaped room rest) else None
-unescaped zero (suc b ∷ rest) = None
-unescaped (suc room) (suc b ∷ rest) = behind (suc b) (unescaped room rest)
+unescaped zero bytes = option_and_then (λ n. going_on (λ _. None) n.0 n.1) (next_escaped bytes)
+unescaped (suc room) bytes = option_and_then (λ n. going_on (unescaped room) n.0 n.1) (next_escaped bytes)
 
 -- the key of a kind, and the bytes behind it
 unfoldable pub key_of_kind : ℕ → Front Value

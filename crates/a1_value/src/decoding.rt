@@ -23,7 +23,7 @@ fn content(bytes: &[u8]) -> Result<(&[u8], &[u8]), ValueFault>
     }
 }
 
-#[tactic(auto, unfolding(crate::specs::Encoding::value_of_kind))]
+#[tactic(auto, using(crate::proofs::Texts::is_text, crate::proofs::Texts::is_no_text), unfolding(crate::specs::Encoding::value_of_kind))]
 fn value_of_kind(alloc: Global, kind: u8, bytes: &[u8]) -> Result<(Value, &[u8]), ValueFault>
     ensures { Decodes (λ x. (x.0, x.1.now)) result (value_of_kind kind bytes.now) }
 {

@@ -1,8 +1,8 @@
 //! Values as keys, whose bytes are in the order of the values.
-ghost use Rattle.std.specs.Prelude.{◌≡◌, [], ◌∷◌, ◌++◌, IfOk, OnOk};
+ghost use Rattle.std.specs.Prelude.{◌≡◌, [], ◌∷◌, ◌++◌, IfOk, OnOk, option_map};
 ghost use Rattle.a1_base.specs.Fronts.{ReadsFront};
 ghost use Rattle.std.specs.Int.{w64, to_be_bytes};
-ghost use Rattle.a1_value.specs.Encoding.{turned_over, turned_back, escaped, key_bytes, unescaped, key_of_kind, key_front};
+ghost use Rattle.a1_value.specs.Encoding.{turned_over, turned_back, escaped, key_bytes, next_escaped, unescaped, key_of_kind, key_front};
 
 use crate::Value;
 use a1_base::{Bin, KEY_LIMIT, Memory, ReadFault, Txt, front_byte, front_u64, push_u64};
@@ -30,17 +30,27 @@ fn turned_back(bits: u64) -> i64
     }
 }
 
+// Puts a byte, escaped, at the end.
+#[tactic(auto, using(crate::proofs::Escapes::escaped_other))]
+fn push_byte(out: &mut Bin, byte: u8) -> Result<(), Memory>
+    ensures { OnOk result (out.new ≡ out.old ++ escaped (byte ∷ [])) }
+{
+    if byte == 0 {
+        out.append(&[0, 255])?;
+    } else {
+        out.append(&[byte])?;
+    }
+    Ok(())
+}
+
 // Puts a kind, the escaped bytes and their end at the end.
+#[tactic(auto, using(crate::proofs::Escapes::escaped_more))]
 fn push_escaped(out: &mut Bin, kind: u8, bytes: &[u8]) -> Result<(), Memory>
     ensures { OnOk result (out.new ≡ out.old ++ kind ∷ escaped bytes.now ++ 0 ∷ 0 ∷ []) }
 {
     out.append(&[kind])?;
     for byte in bytes {
-        if *byte == 0 {
-            out.append(&[0, 255])?;
-        } else {
-            out.append(&[*byte])?;
-        }
+        push_byte(out, *byte)?;
     }
     out.append(&[0, 0])?;
     Ok(())
@@ -70,6 +80,22 @@ pub fn key_bytes(alloc: Global, v: &Value) -> Result<Bin, Memory>
     Ok(out)
 }
 
+// The next of escaped bytes, or none at their end, and the bytes behind it.
+fn next_escaped(bytes: &[u8]) -> Option<(Option<u8>, &[u8])>
+    ensures { next_escaped bytes.now ≡ option_map (λ x. (x.0, x.1.now)) result }
+{
+    let (first, rest) = front_byte(bytes)?;
+    if first != 0 {
+        return Some((Some(first), rest));
+    }
+    let (second, rest) = front_byte(rest)?;
+    match second {
+        0 => Some((None, rest)),
+        255 => Some((Some(0), rest)),
+        _ => None,
+    }
+}
+
 // The bytes that stand escaped in front of their end, of which there are at most `KEY_LIMIT`, and the bytes behind it.
 fn unescaped(alloc: Global, bytes: &[u8]) -> Result<(Bin, &[u8]), ReadFault>
     ensures { ReadsFront result (unescaped KEY_LIMIT bytes.now) }
@@ -77,11 +103,10 @@ fn unescaped(alloc: Global, bytes: &[u8]) -> Result<(Bin, &[u8]), ReadFault>
     let mut content = Vec::with_capacity(alloc, bytes.len().min(KEY_LIMIT))?;
     let mut rest = bytes;
     loop {
-        let (byte, after) = match rest {
-            [0, 0, after @ ..] => return Ok((Bin::from_vec(content), after)),
-            [0, 255, after @ ..] => (0, after),
-            [0, ..] | [] => return Err(ReadFault::Malformed),
-            [byte, after @ ..] => (*byte, after),
+        let (byte, after) = match next_escaped(rest) {
+            Some((Some(byte), after)) => (byte, after),
+            Some((None, after)) => return Ok((Bin::from_vec(content), after)),
+            None => return Err(ReadFault::Malformed),
         };
         if content.len() == KEY_LIMIT {
             return Err(ReadFault::Malformed);
@@ -91,7 +116,7 @@ fn unescaped(alloc: Global, bytes: &[u8]) -> Result<(Bin, &[u8]), ReadFault>
     }
 }
 
-#[tactic(auto, unfolding(crate::specs::Encoding::key_of_kind))]
+#[tactic(auto, using(crate::proofs::Texts::is_text, crate::proofs::Texts::is_no_text), unfolding(crate::specs::Encoding::key_of_kind))]
 fn key_of_kind(alloc: Global, kind: u8, bytes: &[u8]) -> Result<(Value, &[u8]), ReadFault>
     ensures { ReadsFront result (key_of_kind kind bytes.now) }
 {
