@@ -7,7 +7,7 @@ use Rattle.std.proofs.lemmas.Bool.{ltb-false, le-ltb, eqb-true}
 use Rattle.std.proofs.lemmas.List.{take_at, drop_at, take-append-drop, length-take, length-append, nil_from_length}
 use Rattle.std.proofs.lemmas.Nat.{be_bytes_4, be_bytes_8, from_be_bytes-to_be_bytes_4, from_be_bytes-to_be_bytes_8}
 use Rattle.std.proofs.lemmas.Option.{option_and_then_some, same_Some, cond_some}
-use Rattle.a1_base.specs.Fronts.{IsBytes, Front, byte, part, number, both, made, tested, several, counted, sized, whole, inside}
+use Rattle.a1_base.specs.Fronts.{IsBytes, Front, byte, part, number, both, made, tested, several, counted, sized, whole, inside, Exact, ExactWhole}
 
 -- every element in front of and behind a place is a byte
 pub bytes_front : (front rest : List ℕ) → IsBytes (front ++ rest) → IsBytes front
@@ -19,19 +19,8 @@ pub bytes_behind : (front rest : List ℕ) → IsBytes (front ++ rest) → IsByt
 bytes_behind [] rest fits = fits
 bytes_behind (b ∷ front) rest fits = bytes_behind front rest (λ k. fits (suc k))
 
-pub record Exact {A : Type 0} (front : Front A) (spelling : A → List ℕ) (IsA : A → Type 0) : Type 0 where
-  -- what is read is spelled so
-  pub takes : (bytes : List ℕ) (a : A × List ℕ) → IsBytes bytes → front bytes ≡ Some a → IsA a.0 × (bytes ≡ spelling a.0 ++ a.1)
-  -- what is spelled so is read, whatever stands behind it
-  pub again : (a : A) (rest : List ℕ) → IsA a → front (spelling a ++ rest) ≡ Some (a, rest)
-
--- the same of readings of all of some bytes
-pub record ExactWhole {A : Type 0} (read : List ℕ → Option A) (spelling : A → List ℕ) (IsA : A → Type 0) : Type 0 where
-  pub takes : (bytes : List ℕ) (a : A) → IsBytes bytes → read bytes ≡ Some a → IsA a × (bytes ≡ spelling a)
-  pub again : (a : A) → IsA a → read (spelling a) ≡ Some a
-
 -- the value of a step that gave one
-mapped_some : {A B P : Type 0} (f : A → B) (o : Option A) (y : B) → option_map f o ≡ Some y → ((x : A) → o ≡ Some x → f x ≡ y → P) → P
+pub mapped_some : {A B P : Type 0} (f : A → B) (o : Option A) (y : B) → option_map f o ≡ Some y → ((x : A) → o ≡ Some x → f x ≡ y → P) → P
 mapped_some f (Some x) y e next = next x refl (same_Some (f x) y e)
 mapped_some f None y e next = absurd cc
 

@@ -1,5 +1,5 @@
 -- Values read from the front of some bytes.
-use Rattle.std.specs.Prelude.{◌≡◌, ℕ, zero, suc, ◌<◌, List, [], ◌∷◌, length, take, drop, slice_index, Bool, nat_lt, ◌==◌, if◌then◌else◌, Option, Some, None, option_map, option_and_then, Result, Ok, Err, ⊤}
+use Rattle.std.specs.Prelude.{◌≡◌, ℕ, zero, suc, ◌<◌, List, [], ◌∷◌, ◌++◌, length, take, drop, slice_index, Bool, nat_lt, ◌==◌, if◌then◌else◌, Option, Some, None, option_map, option_and_then, Result, Ok, Err, ⊤}
 use Rattle.std.specs.Int.{Width, byte_len, from_be_bytes}
 use Rattle.std.specs.Borrow.{Bor}
 use Rattle.a1_base.specs.declared.fronts.ReadFault.{ReadFault}
@@ -62,6 +62,18 @@ whole p bytes = option_and_then (λ a. if length a.1 == 0 then Some a.0 else Non
 -- the value that all of a part is
 abbrev pub inside : {A : Type 0} → Front (List ℕ) → (List ℕ → Option A) → Front A
 inside outer read bytes = option_and_then (λ b. option_map (λ a. (a, b.1)) (read b.0)) (outer bytes)
+
+-- ---- exact readings
+
+-- what is read is spelled so, and what is spelled so is read, whatever stands behind it
+pub record Exact {A : Type 0} (front : Front A) (spelling : A → List ℕ) (IsA : A → Type 0) : Type 0 where
+  pub takes : (bytes : List ℕ) (a : A × List ℕ) → IsBytes bytes → front bytes ≡ Some a → IsA a.0 × (bytes ≡ spelling a.0 ++ a.1)
+  pub again : (a : A) (rest : List ℕ) → IsA a → front (spelling a ++ rest) ≡ Some (a, rest)
+
+-- the same of a reading of all of some bytes
+pub record ExactWhole {A : Type 0} (read : List ℕ → Option A) (spelling : A → List ℕ) (IsA : A → Type 0) : Type 0 where
+  pub takes : (bytes : List ℕ) (a : A) → IsBytes bytes → read bytes ≡ Some a → IsA a × (bytes ≡ spelling a)
+  pub again : (a : A) → IsA a → read (spelling a) ≡ Some a
 
 -- ---- what a reader answers
 

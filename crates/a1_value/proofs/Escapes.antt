@@ -1,7 +1,10 @@
 -- Bytes that are escaped one after the other, and read back so.
-use Rattle.std.proofs.Common.{◌≡◌, ℕ, zero, suc, ◌+◌, ◌<◌, ◌≢◌, append-nil, List, [], ◌∷◌, ◌++◌, length, take, get_or, Option, Some, None, refl, sym, ap, ◌∙◌, append_assoc}
-use Rattle.std.specs.Prelude.{option_map}
-use Rattle.std.proofs.lemmas.List.{take_more}
+use Rattle.std.proofs.Common.{◌≡◌, ℕ, zero, suc, ◌+◌, ◌<◌, ◌≤◌, ◌≢◌, cond, arith, append-nil, List, [], ◌∷◌, ◌++◌, length, take, get_or, Option, Some, None, refl, sym, ap, ◌∙◌, append_assoc}
+use Rattle.std.specs.Prelude.{option_map, ◌==◌, count_by}
+use Rattle.std.proofs.lemmas.List.Sums.{count_by-le-length}
+use Rattle.std.proofs.lemmas.Bool.{ne_eqb}
+use Rattle.std.proofs.lemmas.List.Recursion.{is_count_by}
+use Rattle.std.proofs.lemmas.List.{take_more, length-append}
 use Rattle.a1_value.specs.Encoding.{escaped, next_escaped, unescaped}
 
 escaped_append : (a b : List ℕ) → escaped (a ++ b) ≡ escaped a ++ escaped b
@@ -44,3 +47,30 @@ module _ (front rest : List ℕ) (total : Option (List ℕ × List ℕ)) where
   pub goes_on : (room less b : ℕ) (after : List ℕ) → next_escaped rest ≡ Some (Some b, after) → room ≡ suc less → with_front front (unescaped room rest) ≡ total → with_front (front ++ b ∷ []) (unescaped less after) ≡ total
   unfolding unescaped
   goes_on room less b after e one so_far = sym (regroup front b (unescaped less after)) ∙ (sym (rw (one, e) refl) ∙ so_far)
+
+-- ---- how long escaped bytes are
+
+zeros : List ℕ → ℕ
+zeros [] = 0
+zeros (zero ∷ bytes) = 1 + zeros bytes
+zeros (suc b ∷ bytes) = zeros bytes
+
+with_zeros : (bytes : List ℕ) → length (escaped bytes) ≡ length bytes + zeros bytes
+unfolding zeros
+with_zeros [] = refl
+with_zeros (zero ∷ bytes) = let e = with_zeros bytes in omega (arith, e)
+with_zeros (suc b ∷ bytes) = let e = with_zeros bytes in omega (arith, e)
+
+zeros_counted : (bytes : List ℕ) → zeros bytes ≡ count_by (λ b. b == 0) bytes
+unfolding zeros
+zeros_counted bytes = is_count_by zeros (λ b. b == 0) refl step bytes where
+  step : (b : ℕ) (more : List ℕ) → zeros (b ∷ more) ≡ cond (b == 0) (1 + zeros more) (zeros more)
+  step zero more = refl
+  step (suc b) more = sym (ap (λ t. cond t (1 + zeros more) (zeros more)) (ne_eqb (suc b) 0 (λ e. cc)))
+
+-- each 00 takes a byte more, and the end two
+pub escaped_length : (bytes : List ℕ) → length (escaped bytes ++ 0 ∷ 0 ∷ []) ≡ 2 + length bytes + count_by (λ b. b == 0) bytes
+escaped_length bytes = omega (arith, with_zeros bytes, zeros_counted bytes, length-append (escaped bytes) (0 ∷ 0 ∷ []))
+
+pub few_zeros : (bytes : List ℕ) → count_by (λ b. b == 0) bytes ≤ length bytes
+few_zeros bytes = count_by-le-length (λ b. b == 0) bytes

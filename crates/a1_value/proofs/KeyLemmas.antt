@@ -8,12 +8,12 @@ use Rattle.std.proofs.lemmas.Int.{ints}
 use Rattle.std.proofs.lemmas.Option.{none-some, same_Some, cond_some, option_and_then_some}
 use Rattle.std.proofs.lemmas.Bool.{ltb-true, ltb-false, lt-ltb, le-ltb, eqb-true, ne_eqb}
 use Rattle.a1_base.specs.declared.limits.TheConstants.{KEY_LIMIT}
-use Rattle.a1_base.specs.Fronts.{IsBytes, Front, number, tested}
-use Rattle.a1_base.proofs.Exact.{Exact, number64_exact, tested_exact}
+use Rattle.a1_base.specs.Fronts.{IsBytes, Front, number, tested, Exact}
+use Rattle.a1_base.proofs.Exact.{number64_exact, tested_exact, mapped_some}
 use Rattle.a1_value.specs.declared.value.Value.{Value}
 use Rattle.a1_value.specs.declared.value.Value.TheVariants.{Int, Text, Bytes}
 use Rattle.a1_value.specs.Encoding.{IsKey, turned_over, turned_back, escaped, next_escaped, going_on, unescaped, key_bytes, key_of_kind, key_front}
-use Rattle.a1_value.proofs.OfKind.{mapped_some, kind_takes}
+use Rattle.a1_value.proofs.OfKind.{kind_takes}
 use Rattle.a1_value.proofs.KeyOrder.{turned_low}
 
 -- ---- escaped bytes

@@ -1,5 +1,4 @@
 pub mod KeyOrder
-pub mod Texts
 pub mod Escapes
 pub mod OfKind
 pub mod ValueLemmas

@@ -2,14 +2,9 @@
 use Rattle.std.proofs.Common.{◌≡◌, ℕ, List, [], ◌∷◌, ◌++◌, Option, Some, None, refl, ap, subst, ◌∙◌}
 use Rattle.std.specs.Prelude.{option_map}
 use Rattle.std.proofs.lemmas.Option.{same_Some}
-use Rattle.a1_base.specs.Fronts.{IsBytes, Front, made}
-use Rattle.a1_base.proofs.Exact.{Exact, bytes_front, bytes_behind}
+use Rattle.a1_base.specs.Fronts.{IsBytes, Front, made, Exact}
+use Rattle.a1_base.proofs.Exact.{bytes_front, bytes_behind, mapped_some}
 use Rattle.a1_value.specs.declared.value.Value.{Value}
-
--- the value of a step that gave one
-pub mapped_some : {A B P : Type 0} (f : A → B) (o : Option A) (y : B) → option_map f o ≡ Some y → ((x : A) → o ≡ Some x → f x ≡ y → P) → P
-mapped_some f (Some x) y e next = next x refl (same_Some (f x) y e)
-mapped_some f None y e next = absurd cc
 
 -- a kind in front of what is made into a value
 pub kind_takes : {A : Type 0} (p : Front A) (s : A → List ℕ) (P : A → Type 0) → Exact p s P → (spelling : Value → List ℕ) (IsA : Value → Type 0) (kind : ℕ) (f : A → Value)

@@ -10,8 +10,8 @@ use Rattle.std.proofs.Math.Facts.{sfits_to_z, Fits-of_z, Fits-of_lt, Fits-lt-pow
 use Rattle.std.proofs.lemmas.Option.{none-some}
 use Rattle.std.proofs.lemmas.Bool.{ltb-false, le-ltb, ne_eqb}
 use Rattle.a1_base.specs.declared.limits.TheConstants.{TEXT_LIMIT}
-use Rattle.a1_base.specs.Fronts.{IsBytes, Front, part, number, made, tested, sized, whole}
-use Rattle.a1_base.proofs.Exact.{Exact, number32_exact, number64_exact, tested_exact, sized_exact, whole_exact, bytes_behind}
+use Rattle.a1_base.specs.Fronts.{IsBytes, Front, part, number, made, tested, sized, whole, Exact}
+use Rattle.a1_base.proofs.Exact.{number32_exact, number64_exact, tested_exact, sized_exact, whole_exact, bytes_behind}
 use Rattle.a1_value.specs.declared.fault.ValueFault.{ValueFault}
 use Rattle.a1_value.specs.declared.fault.ValueFault.TheVariants as fault
 use Rattle.a1_value.specs.declared.value.Value.{Value}

@@ -2,6 +2,7 @@
 use Rattle.std.specs.Prelude.{◌≡◌, ℕ, zero, suc, ◌≤◌, ◌+◌, ◌-◌, ℤ, pos, negsuc, List, [], ◌∷◌, ◌++◌, length, nat_lt, ◌==◌, if◌then◌else◌, Option, Some, None, option_map, option_and_then, ok_or, Result, Ok, Err, IsTrue, ⊤}
 use Rattle.std.specs.Int.{w32, w64, to_be_bytes, cast_unsigned, cast_signed}
 use Rattle.std.specs.Int.RustNames.{FitsSigned}
+use Rattle.std.specs.Result.{result_ok}
 use Rattle.std.specs.Str.{is_utf8}
 use Rattle.a1_base.specs.declared.limits.TheConstants.{KEY_LIMIT, TEXT_LIMIT}
 use Rattle.a1_base.specs.Fronts.{IsBytes, Front, byte, part, number, made, tested}
@@ -62,6 +63,10 @@ value_of_kind kind bytes =
 -- the value that the bytes begin with, and the bytes behind it, or the first fault
 unfoldable pub value_front : List ℕ → Result (Value × List ℕ) ValueFault
 value_front bytes = passing (ok_or (byte bytes) fault.Short) (λ kind. value_of_kind kind.0 kind.1)
+
+-- the value in front, if there is one
+abbrev pub stored_front : Front Value
+stored_front bytes = result_ok (value_front bytes)
 
 -- the value that the bytes are, or the first fault
 unfoldable pub decoded : List ℕ → Result Value ValueFault

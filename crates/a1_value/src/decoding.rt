@@ -3,7 +3,7 @@ ghost use Rattle.std.specs.Prelude.{◌≡◌, IfOk, Ok};
 ghost use Rattle.a1_value.specs.Encoding.{IsStored, value_bytes, content, value_of_kind, value_front, decoded, Decodes};
 
 use crate::{Value, ValueFault};
-use a1_base::{Bin, TEXT_LIMIT, Txt, front_byte, front_part, front_u32, front_u64};
+use a1_base::{Bin, TEXT_LIMIT, Txt, front_byte, front_part, front_u32, front_u64, text_of};
 use std::alloc::Global;
 
 #[tactic(auto, unfolding(crate::specs::Encoding::content))]
@@ -23,7 +23,7 @@ fn content(bytes: &[u8]) -> Result<(&[u8], &[u8]), ValueFault>
     }
 }
 
-#[tactic(auto, using(crate::proofs::Texts::is_text, crate::proofs::Texts::is_no_text), unfolding(crate::specs::Encoding::value_of_kind))]
+#[tactic(auto, unfolding(crate::specs::Encoding::value_of_kind))]
 fn value_of_kind(alloc: Global, kind: u8, bytes: &[u8]) -> Result<(Value, &[u8]), ValueFault>
     ensures { Decodes (λ x. (x.0, x.1.now)) result (value_of_kind kind bytes.now) }
 {
@@ -34,7 +34,7 @@ fn value_of_kind(alloc: Global, kind: u8, bytes: &[u8]) -> Result<(Value, &[u8])
         },
         2 => {
             let (text, rest) = content(bytes)?;
-            let Ok(text) = std::str::from_utf8(text) else {
+            let Some(text) = text_of(text) else {
                 return Err(ValueFault::Utf8);
             };
             Ok((Value::Text(Txt::from_text(alloc, text)?), rest))

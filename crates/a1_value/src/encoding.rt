@@ -4,6 +4,7 @@ ghost use Rattle.std.specs.Int.{w32, to_be_bytes};
 ghost use Rattle.a1_value.specs.Encoding.{value_size, value_bytes};
 
 use crate::Value;
+use crate::sizes::encoded_size;
 use a1_base::{Bin, Memory, TEXT_LIMIT, push_u32};
 use std::alloc::Global;
 
@@ -16,18 +17,6 @@ fn push_content(out: &mut Bin, kind: u8, content: &[u8]) -> Result<(), Memory>
     push_u32(out, content.len() as u32)?;
     out.append(content)?;
     Ok(())
-}
-
-// The bytes that the encoding of a value takes.
-fn encoded_size(v: &Value) -> usize
-    requires { value_size v.now ≤ TEXT_LIMIT }
-    ensures { result ≡ length (value_bytes v.now) }
-{
-    match v {
-        Value::Int(_) => 9,
-        Value::Text(text) => 5 + text.as_bytes().len(),
-        Value::Bytes(bytes) => 5 + bytes.as_slice().len(),
-    }
 }
 
 /// Puts the encoding of a value at the end. After `Memory` a part of it may stand there.

@@ -5,7 +5,7 @@ ghost use Rattle.std.specs.Int.{w64, to_be_bytes};
 ghost use Rattle.a1_value.specs.Encoding.{turned_over, turned_back, escaped, key_bytes, next_escaped, unescaped, key_of_kind, key_front};
 
 use crate::Value;
-use a1_base::{Bin, KEY_LIMIT, Memory, ReadFault, Txt, front_byte, front_u64, push_u64};
+use a1_base::{Bin, KEY_LIMIT, Memory, ReadFault, Txt, front_byte, front_u64, push_u64, text_of};
 use std::alloc::Global;
 
 // The bits of a number in two's complement with the highest bit turned over.
@@ -116,7 +116,7 @@ fn unescaped(alloc: Global, bytes: &[u8]) -> Result<(Bin, &[u8]), ReadFault>
     }
 }
 
-#[tactic(auto, using(crate::proofs::Texts::is_text, crate::proofs::Texts::is_no_text), unfolding(crate::specs::Encoding::key_of_kind))]
+#[tactic(auto, unfolding(crate::specs::Encoding::key_of_kind))]
 fn key_of_kind(alloc: Global, kind: u8, bytes: &[u8]) -> Result<(Value, &[u8]), ReadFault>
     ensures { ReadsFront result (key_of_kind kind bytes.now) }
 {
@@ -127,10 +127,10 @@ fn key_of_kind(alloc: Global, kind: u8, bytes: &[u8]) -> Result<(Value, &[u8]), 
         },
         2 => {
             let (text, rest) = unescaped(alloc, bytes)?;
-            match std::str::from_utf8(text.as_slice()) {
-                Ok(text) => Ok((Value::Text(Txt::from_text(alloc, text)?), rest)),
-                Err(_) => Err(ReadFault::Malformed),
-            }
+            let Some(text) = text_of(text.as_slice()) else {
+                return Err(ReadFault::Malformed);
+            };
+            Ok((Value::Text(Txt::from_text(alloc, text)?), rest))
         }
         3 => {
             let (bytes, rest) = unescaped(alloc, bytes)?;

@@ -11,6 +11,7 @@ mod given;
 mod keys;
 mod laws;
 mod order;
+mod sizes;
 mod value;
 
 pub use decoding::{decode, front_value};
@@ -18,6 +19,7 @@ pub use encoding::{encode, push_value};
 pub use fault::ValueFault;
 pub use given::Given;
 pub use keys::{front_key, key_bytes, push_key};
-pub use laws::keys_in_order;
+pub use laws::{fronts_read_back, keys_in_order};
 pub use order::compare;
+pub use sizes::key_size;
 pub use value::Value;

@@ -1,0 +1,3 @@
+pub mod SchemaLemmas
+pub mod Several
+pub mod SizeLemmas

@@ -1,0 +1,5 @@
+pub mod Names
+pub mod Layout
+pub mod Schemas
+pub mod Formed
+pub mod Reading

@@ -1,0 +1,20 @@
+//! Schemas of types, records of vertices and edges, and the rows in which a store keeps a graph.
+//!
+//! A schema and a record stand for lists, a store key and a value for the bytes that a row has. The layer knows what a
+//! record must be to fit its schema; it knows neither graphs nor where rows are kept.
+#![tactic(auto)]
+
+mod fault;
+mod form;
+mod layout;
+mod names;
+mod rows;
+mod schema;
+mod size;
+
+pub use fault::SchemaFault;
+pub use form::{is_type, name_of};
+pub use layout::{front_name, front_record, front_schema, push_name, push_record, push_schema};
+pub use names::{EdgeName, GraphName, TypeName, VertexName};
+pub use rows::{Change, Changes, StoreKey, StoreValue, TypeSchema};
+pub use schema::{Attr, Kind, Record, Schema};
