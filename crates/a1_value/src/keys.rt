@@ -2,7 +2,8 @@
 ghost use Rattle.std.specs.Prelude.{◌≡◌, [], ◌∷◌, ◌++◌, IfOk, OnOk, option_map};
 ghost use Rattle.a1_base.specs.Fronts.{ReadsFront};
 ghost use Rattle.std.specs.Int.{w64, to_be_bytes};
-ghost use Rattle.a1_value.specs.Encoding.{turned_over, turned_back, escaped, key_bytes, next_escaped, unescaped, key_of_kind, key_front};
+ghost use Rattle.a1_value.specs.Encoding.{turned_over, turned_back, escaped, key_bytes, next_escaped, unescaped};
+ghost use Rattle.a1_value.specs.Encoding.{key_of_kind, key_front};
 
 use crate::Value;
 use a1_base::{Bin, KEY_LIMIT, Memory, ReadFault, Txt, front_byte, front_u64, push_u64, text_of};
@@ -70,12 +71,21 @@ pub fn push_key(out: &mut Bin, v: &Value) -> Result<(), Memory>
     }
 }
 
-/// The key bytes of a value, in byte order as the values in theirs: its kind (1, 2, 3), then a number's 8 bytes of two's
-/// complement with the highest bit turned over, or the bytes with each `00` as `00 ff`, and `00 00` behind them.
+// The bytes that a key takes, without those that its 00 take more.
+fn key_room(v: &Value) -> usize {
+    match v {
+        Value::Int(_) => 9,
+        Value::Text(text) => text.as_bytes().len() + 3,
+        Value::Bytes(bytes) => bytes.as_slice().len() + 3,
+    }
+}
+
+/// The key bytes of a value, in byte order as the values in theirs: its kind (1, 2, 3), then a number's 8 bytes of
+/// two's complement with the highest bit turned over, or the bytes with each `00` as `00 ff`, and `00 00` behind them.
 pub fn key_bytes(alloc: Global, v: &Value) -> Result<Bin, Memory>
     ensures { IfOk result (λ bytes. bytes ≡ key_bytes v.now) }
 {
-    let mut out = Bin::new(alloc);
+    let mut out = Bin::with_capacity(alloc, key_room(v))?;
     push_key(&mut out, v)?;
     Ok(out)
 }

@@ -12,6 +12,8 @@ mod keys;
 mod laws;
 mod order;
 mod sizes;
+#[cfg(test)]
+mod tests;
 mod value;
 
 pub use decoding::{decode, front_value};
