@@ -19,6 +19,13 @@ pub bytes_behind : (front rest : List ℕ) → IsBytes (front ++ rest) → IsByt
 bytes_behind [] rest fits = fits
 bytes_behind (b ∷ front) rest fits = bytes_behind front rest (λ k. fits (suc k))
 
+-- the same values, said otherwise
+pub same_exact : {A : Type 0} (p : Front A) (s : A → List ℕ) (P Q : A → Type 0) → Exact p s P → ((a : A) → P a → Q a) → ((a : A) → Q a → P a) → Exact p s Q
+same_exact p s P Q first to from = record {
+  takes = λ bytes a fits e. let one = first.takes bytes a fits e in (to a.0 one.0, one.1);
+  again = λ a rest h. first.again a rest (from a h);
+}
+
 -- the value of a step that gave one
 pub mapped_some : {A B P : Type 0} (f : A → B) (o : Option A) (y : B) → option_map f o ≡ Some y → ((x : A) → o ≡ Some x → f x ≡ y → P) → P
 mapped_some f (Some x) y e next = next x refl (same_Some (f x) y e)

@@ -23,13 +23,13 @@ fn zeros(bytes: &[u8]) -> usize
     bytes.iter().filter(|byte| **byte == 0).count()
 }
 
-// The bytes that escaped bytes and their end take.
+// The bytes that a kind, escaped bytes and their end take.
 #[tactic(auto, using(crate::proofs::Escapes::escaped_length, crate::proofs::Escapes::few_zeros))]
 fn escaped_size(bytes: &[u8]) -> usize
     requires { length bytes.now ≤ KEY_LIMIT }
-    ensures { result ≡ length (escaped bytes.now ++ 0 ∷ 0 ∷ []) }
+    ensures { result ≡ length (0 ∷ escaped bytes.now ++ 0 ∷ 0 ∷ []) }
 {
-    2 + bytes.len() + zeros(bytes)
+    3 + bytes.len() + zeros(bytes)
 }
 
 /// The bytes that a key takes.
@@ -39,7 +39,7 @@ pub fn key_size(v: &Value) -> usize
 {
     match v {
         Value::Int(_) => 9,
-        Value::Text(text) => 1 + escaped_size(text.as_bytes()),
-        Value::Bytes(bytes) => 1 + escaped_size(bytes.as_slice()),
+        Value::Text(text) => escaped_size(text.as_bytes()),
+        Value::Bytes(bytes) => escaped_size(bytes.as_slice()),
     }
 }

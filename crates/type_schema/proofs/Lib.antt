@@ -1,3 +1,4 @@
 pub mod SchemaLemmas
 pub mod Several
 pub mod SizeLemmas
+pub mod LayoutLemmas

@@ -14,7 +14,8 @@ pub few_attributes : (schema : List Attr) → IsTrue (is_list schema) → length
 unfolding is_list
 few_attributes schema h = let few = leb-true (length schema) ATTRIBUTE_LIMIT (and_parts _ _ h).0 in omega (arith, few)
 
-short : (name : Name) → is_name name ≡ true → length name < 256
+-- a name has its length in a byte
+pub short : (name : Name) → is_name name ≡ true → length name < 256
 unfolding is_name
 short [] h = omega arith
 short (b ∷ name) h =

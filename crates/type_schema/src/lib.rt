@@ -6,6 +6,7 @@
 
 mod fault;
 mod form;
+mod laws;
 mod layout;
 mod names;
 mod rows;
@@ -14,6 +15,7 @@ mod size;
 
 pub use fault::SchemaFault;
 pub use form::{is_type, name_of};
+pub use laws::layouts_read_back;
 pub use layout::{front_name, front_record, front_schema, push_name, push_record, push_schema};
 pub use names::{EdgeName, GraphName, TypeName, VertexName};
 pub use rows::{Change, Changes, StoreKey, StoreValue, TypeSchema};
