@@ -1,0 +1,152 @@
+-- Store values and changes read back.
+use Rattle.std.proofs.Common.{◌≡◌, ℕ, zero, suc, ◌+◌, ◌*◌, ◌<◌, ◌≤◌, ◌^◌, Bool, true, false, cond, List, [], ◌∷◌, ◌++◌, length, Option, Some, None, refl, sym, ap, subst, ◌∙◌, arith, append_assoc, nat_eq, nat_lt, nat_le}
+use Rattle.std.specs.Prelude.{◌&&◌, IsTrue, ⊤, IfSome, is_some, option_map, option_and_then}
+use Rattle.std.specs.Int.{w32, w64, to_be_bytes}
+use Rattle.std.proofs.lemmas.Bool.{false≢true, and_parts, leb-true, eqb-true, ne_eqb}
+use Rattle.std.proofs.lemmas.List.{nil_from_length, length-append}
+use Rattle.std.proofs.lemmas.Option.{option_and_then_some, same_Some, cond_some, none-some}
+use Rattle.a1_base.specs.declared.limits.TheConstants.{GRAPH_NUMBER_LIMIT, KEY_LIMIT, NAME_LIMIT, RECORD_LIMIT}
+use Rattle.a1_base.specs.Fronts.{IsBytes, Front, byte, number, both, made, tested, sized, whole, inside, Exact, ExactWhole}
+use Rattle.a1_base.proofs.Exact.{bytes_front, bytes_behind, mapped_some, byte_exact, number32_exact, number64_exact, tested_exact, made_exact, both_exact, sized_exact, inside_exact, whole_exact, same_exact}
+use Rattle.type_schema.specs.declared.rows.StoreKey.{StoreKey}
+use Rattle.type_schema.specs.declared.rows.StoreKey.TheVariants as key
+use Rattle.type_schema.specs.declared.rows.StoreValue.{StoreValue}
+use Rattle.type_schema.specs.declared.rows.StoreValue.TheVariants as value
+use Rattle.type_schema.specs.declared.rows.TypeSchema.{TypeSchema}
+use Rattle.type_schema.specs.declared.rows.TypeSchema.TheVariants.{OfVertices, OfEdges}
+use Rattle.type_schema.specs.declared.rows.Change.{Change}
+use Rattle.type_schema.specs.Layout.{schema_bytes, record_bytes, type_bytes, row_key, row_value, block, value_part, change_bytes}
+use Rattle.type_schema.specs.Schemas.{Schema}
+use Rattle.type_schema.specs.Formed.{is_counter, is_graph_number, is_vertex_list, is_edge_list, is_list, is_type, IsRecord, IsStoreKey, FitsKey, IsValueOf, HasForm}
+use Rattle.type_schema.specs.Reading.{schema_front, record_front}
+use Rattle.type_schema.proofs.LayoutLemmas.{schema_exact, record_exact}
+use Rattle.graph_changes.specs.Reading.{key_whole, graph_number_front, counter_front, schema_of, is_type_tag, type_schema_front, value_whole, part_of_tag, value_part_front, is_value_part, change_front}
+use Rattle.graph_changes.proofs.KeyLemmas.{whole_takes, graph_number_exact, key_exact_whole}
+
+-- ---- values
+
+counter_below : (n : ℕ) → is_counter n ≡ true → n < 2 ^ 64
+counter_below n h = let le = leb-true n GRAPH_NUMBER_LIMIT (and_parts (nat_le 2 n) _ h).1 in omega (arith, le)
+
+counter_exact : Exact counter_front (to_be_bytes w64) (λ n. IsTrue (is_counter n))
+unfolding counter_front
+counter_exact = same_exact (tested is_counter (number w64)) (to_be_bytes w64) (λ n. (n < 2 ^ 64) × (is_counter n ≡ true)) (λ n. IsTrue (is_counter n))
+    (tested_exact (number w64) (to_be_bytes w64) (λ n. n < 2 ^ 64) number64_exact is_counter) (λ n h. h.1) (λ n h. (counter_below n h, h))
+
+abbrev type_parts : TypeSchema → ℕ × Schema
+type_parts (OfVertices schema) = (1, schema)
+type_parts (OfEdges schema) = (2, schema)
+
+abbrev parts_bytes : ℕ × Schema → List ℕ
+parts_bytes x = x.0 ∷ schema_bytes x.1
+
+abbrev ArePartsOf : ℕ × Schema → Type 0
+ArePartsOf x = ((x.0 < 256) × (is_type_tag x.0 ≡ true)) × IsTrue (is_list x.1)
+
+parts_back : (tag : ℕ) (schema : Schema) → is_type_tag tag ≡ true → type_parts (schema_of tag schema) ≡ (tag, schema)
+parts_back zero schema h = absurd (false≢true h)
+parts_back (suc zero) schema h = refl
+parts_back (suc (suc zero)) schema h = refl
+parts_back (suc (suc (suc n))) schema h =
+    let few = leb-true (suc (suc (suc n))) 2 (and_parts (nat_le 1 (suc (suc (suc n)))) (nat_le (suc (suc (suc n))) 2) h).1 in
+    absurd (omega (arith, few))
+
+parts_there : (t : TypeSchema) → schema_of (type_parts t).0 (type_parts t).1 ≡ t
+parts_there (OfVertices schema) = refl
+parts_there (OfEdges schema) = refl
+
+spelled : (t : TypeSchema) → parts_bytes (type_parts t) ≡ type_bytes t
+spelled (OfVertices schema) = refl
+spelled (OfEdges schema) = refl
+
+parts_fit : (t : TypeSchema) → is_type t ≡ true → ArePartsOf (type_parts t)
+unfolding is_type
+parts_fit (OfVertices schema) h = ((omega arith, refl), (and_parts (is_vertex_list schema) (is_list schema) h).1)
+parts_fit (OfEdges schema) h = ((omega arith, refl), (and_parts (is_edge_list schema) (is_list schema) h).1)
+
+abbrev parts_front : Front (ℕ × Schema)
+parts_front = both (tested is_type_tag byte) schema_front
+
+parts_exact : Exact (made (λ x. schema_of x.0 x.1) parts_front) (λ t. parts_bytes (type_parts t)) (λ t. ArePartsOf (type_parts t))
+parts_exact = made_exact parts_front parts_bytes ArePartsOf
+    (both_exact (tested is_type_tag byte) (λ n. n ∷ []) (λ n. (n < 256) × (is_type_tag n ≡ true)) (tested_exact byte (λ n. n ∷ []) (λ n. n < 256) byte_exact is_type_tag)
+        schema_front schema_bytes (λ schema. IsTrue (is_list schema)) schema_exact)
+    (λ x. schema_of x.0 x.1) type_parts (λ x h. parts_back x.0 x.1 h.0.1) (λ t h. parts_there t)
+
+-- the same bytes, said otherwise
+respelled : {A : Type 0} (p : Front A) (s t : A → List ℕ) (P : A → Type 0) → ((a : A) → s a ≡ t a) → Exact p s P → Exact p t P
+respelled p s t P same first = record {
+  takes = λ bytes a fits e. let one = first.takes bytes a fits e in (one.0, one.1 ∙ ap (λ z. z ++ a.1) (same a.0));
+  again = λ a rest h. ap (λ z. p (z ++ rest)) (sym (same a)) ∙ first.again a rest h;
+}
+
+type_schema_exact : Exact type_schema_front type_bytes (λ t. IsTrue (is_type t))
+unfolding type_schema_front
+type_schema_exact = respelled (tested is_type (made (λ x. schema_of x.0 x.1) parts_front)) (λ t. parts_bytes (type_parts t)) type_bytes (λ t. IsTrue (is_type t)) spelled
+    (same_exact (tested is_type (made (λ x. schema_of x.0 x.1) parts_front)) (λ t. parts_bytes (type_parts t)) (λ t. ArePartsOf (type_parts t) × (is_type t ≡ true)) (λ t. IsTrue (is_type t))
+        (tested_exact (made (λ x. schema_of x.0 x.1) parts_front) (λ t. parts_bytes (type_parts t)) (λ t. ArePartsOf (type_parts t)) parts_exact is_type)
+        (λ t h. h.1) (λ t h. (parts_fit t h, h)))
+
+counter_whole : ExactWhole (whole counter_front) (to_be_bytes w64) (λ n. IsTrue (is_counter n))
+counter_whole = whole_exact counter_front (to_be_bytes w64) (λ n. IsTrue (is_counter n)) counter_exact
+
+graph_number_whole : ExactWhole (whole graph_number_front) (to_be_bytes w64) (λ n. IsTrue (is_graph_number n))
+graph_number_whole = whole_exact graph_number_front (to_be_bytes w64) (λ n. IsTrue (is_graph_number n)) graph_number_exact
+
+type_whole : ExactWhole (whole type_schema_front) type_bytes (λ t. IsTrue (is_type t))
+type_whole = whole_exact type_schema_front type_bytes (λ t. IsTrue (is_type t)) type_schema_exact
+
+record_whole : ExactWhole (whole record_front) record_bytes IsRecord
+record_whole = whole_exact record_front record_bytes IsRecord record_exact
+
+value_takes : (k : StoreKey) (bytes : List ℕ) (v : StoreValue) → IsBytes bytes → value_whole k bytes ≡ Some v → FitsKey k v × (bytes ≡ row_value v)
+unfolding value_whole
+value_takes key.Counter bytes v fits e = whole_takes (whole counter_front) (to_be_bytes w64) (λ n. IsTrue (is_counter n)) counter_whole value.Number row_value (FitsKey key.Counter) [] (λ n h. (h, refl)) bytes v fits e
+value_takes (key.Tenant t) bytes v fits e =
+    let c = cond_some (nat_eq (length bytes) 0) value.Nothing v e in
+    subst (λ (y : StoreValue). FitsKey (key.Tenant t) y × (bytes ≡ row_value y)) c.1 (tt, nil_from_length bytes (eqb-true _ _ c.0))
+value_takes (key.Graph g) bytes v fits e = whole_takes (whole graph_number_front) (to_be_bytes w64) (λ n. IsTrue (is_graph_number n)) graph_number_whole value.Number row_value (FitsKey (key.Graph g)) [] (λ n h. (h, refl)) bytes v fits e
+value_takes (key.TypeKey t) bytes v fits e = whole_takes (whole type_schema_front) type_bytes (λ s. IsTrue (is_type s)) type_whole value.Schema row_value (FitsKey (key.TypeKey t)) [] (λ s h. (h, refl)) bytes v fits e
+value_takes (key.Vertex x) bytes v fits e = whole_takes (whole record_front) record_bytes IsRecord record_whole value.Record row_value (FitsKey (key.Vertex x)) [] (λ r h. (h, refl)) bytes v fits e
+value_takes (key.Edge x) bytes v fits e = whole_takes (whole record_front) record_bytes IsRecord record_whole value.Record row_value (FitsKey (key.Edge x)) [] (λ r h. (h, refl)) bytes v fits e
+
+value_again : (k : StoreKey) (v : StoreValue) → FitsKey k v → value_whole k (row_value v) ≡ Some v
+unfolding value_whole
+value_again key.Counter (value.Number n) h = ap (option_map value.Number) (counter_whole.again n h)
+value_again (key.Tenant t) value.Nothing h = refl
+value_again (key.Graph g) (value.Number n) h = ap (option_map value.Number) (graph_number_whole.again n h)
+value_again (key.TypeKey t) (value.Schema s) h = ap (option_map value.Schema) (type_whole.again s h)
+value_again (key.Vertex x) (value.Record r) h = ap (option_map value.Record) (record_whole.again r h)
+value_again (key.Edge x) (value.Record r) h = ap (option_map value.Record) (record_whole.again r h)
+value_again k v h = absurd h
+
+pub value_exact_whole : (k : StoreKey) → ExactWhole (value_whole k) row_value (FitsKey k)
+value_exact_whole k = record { takes = value_takes k; again = value_again k }
+
+-- ---- the part of a value
+
+abbrev Fits32 : List ℕ → Type 0
+Fits32 bytes = length bytes < 2 ^ 32
+
+block_exact : Exact (sized (number w32)) block Fits32
+block_exact = sized_exact (number w32) (to_be_bytes w32) (λ n. n < 2 ^ 32) number32_exact
+
+part_takes : (bytes : List ℕ) (v : Option (List ℕ) × List ℕ) → IsBytes bytes → value_part_front bytes ≡ Some v → IfSome v.0 Fits32 × (bytes ≡ value_part v.0 ++ v.1)
+unfolding value_part_front
+part_takes [] v fits e = absurd (none-some v e)
+part_takes (zero ∷ bytes) v fits e = subst (λ (y : Option (List ℕ) × List ℕ). IfSome y.0 Fits32 × (0 ∷ bytes ≡ value_part y.0 ++ y.1)) (same_Some (None, bytes) v e) (tt, refl)
+part_takes (suc zero ∷ bytes) v fits e = mapped_some (λ (b : List ℕ × List ℕ). (Some b.0, b.1)) (sized (number w32) bytes) v e (λ b found same.
+    let one = block_exact.takes bytes b (bytes_behind (1 ∷ []) bytes fits) found in
+    subst (λ (y : Option (List ℕ) × List ℕ). IfSome y.0 Fits32 × (1 ∷ bytes ≡ value_part y.0 ++ y.1)) same (one.0, ap (λ z. 1 ∷ z) one.1))
+part_takes (suc (suc n) ∷ bytes) v fits e = absurd (none-some v (sym (no_part n bytes) ∙ e))
+  where
+    no_part : (n : ℕ) (bytes : List ℕ) → part_of_tag (suc (suc n)) bytes ≡ None
+    no_part n bytes = rw (ne_eqb (suc (suc n)) 0 (omega arith), ne_eqb (suc (suc n)) 1 (omega arith)) refl
+
+part_again : (v : Option (List ℕ)) (rest : List ℕ) → IfSome v Fits32 → value_part_front (value_part v ++ rest) ≡ Some (v, rest)
+unfolding value_part_front
+part_again None rest h = refl
+part_again (Some b) rest h = ap (option_map (λ (a : List ℕ × List ℕ). (Some a.0, a.1))) (block_exact.again b rest h)
+
+part_exact : Exact value_part_front value_part (λ v. IfSome v Fits32)
+part_exact = record { takes = part_takes; again = part_again }
