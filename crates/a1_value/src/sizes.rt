@@ -1,5 +1,5 @@
 //! How many bytes values take.
-ghost use Rattle.std.specs.Prelude.{◌≡◌, ◌≤◌, ◌==◌, [], ◌∷◌, ◌++◌, length, count_by};
+ghost use Rattle.std.specs.Prelude.{◌≡◌, ◌+◌, ◌*◌, ◌≤◌, ◌==◌, [], ◌∷◌, ◌++◌, length, count_by};
 ghost use Rattle.a1_value.specs.Encoding.{value_size, value_bytes, escaped, key_bytes};
 
 use crate::Value;
@@ -27,7 +27,8 @@ fn zeros(bytes: &[u8]) -> usize
 #[tactic(auto, using(crate::proofs::Escapes::escaped_length, crate::proofs::Escapes::few_zeros))]
 fn escaped_size(bytes: &[u8]) -> usize
     requires { length bytes.now ≤ KEY_LIMIT }
-    ensures { result ≡ length (0 ∷ escaped bytes.now ++ 0 ∷ 0 ∷ []) }
+    ensures size { result ≡ length (0 ∷ escaped bytes.now ++ 0 ∷ 0 ∷ []) }
+    ensures bound { result ≤ 3 + 2 * KEY_LIMIT }
 {
     3 + bytes.len() + zeros(bytes)
 }
@@ -35,7 +36,8 @@ fn escaped_size(bytes: &[u8]) -> usize
 /// The bytes that a key takes.
 pub fn key_size(v: &Value) -> usize
     requires { value_size v.now ≤ KEY_LIMIT }
-    ensures { result ≡ length (key_bytes v.now) }
+    ensures size { result ≡ length (key_bytes v.now) }
+    ensures bound { result ≤ 3 + 2 * KEY_LIMIT }
 {
     match v {
         Value::Int(_) => 9,
