@@ -8,6 +8,10 @@ use Rattle.std.proofs.lemmas.Option.{option_and_then_some, same_Some, cond_some,
 use Rattle.a1_base.specs.declared.limits.TheConstants.{GRAPH_NUMBER_LIMIT, KEY_LIMIT, NAME_LIMIT, RECORD_LIMIT}
 use Rattle.a1_base.specs.Fronts.{IsBytes, Front, byte, number, both, made, tested, sized, whole, inside, Exact, ExactWhole}
 use Rattle.a1_base.proofs.Exact.{bytes_front, bytes_behind, mapped_some, byte_exact, number32_exact, number64_exact, tested_exact, made_exact, both_exact, sized_exact, inside_exact, whole_exact, same_exact}
+use Rattle.a1_value.specs.declared.value.Value.{Value}
+use Rattle.a1_value.specs.declared.value.Value.TheVariants.{Int, Text, Bytes}
+use Rattle.a1_value.specs.Encoding.{IsKey, key_bytes}
+use Rattle.a1_value.proofs.Escapes.{escaped_length, few_zeros}
 use Rattle.type_schema.specs.declared.rows.StoreKey.{StoreKey}
 use Rattle.type_schema.specs.declared.rows.StoreKey.TheVariants as key
 use Rattle.type_schema.specs.declared.rows.StoreValue.{StoreValue}
@@ -15,12 +19,14 @@ use Rattle.type_schema.specs.declared.rows.StoreValue.TheVariants as value
 use Rattle.type_schema.specs.declared.rows.TypeSchema.{TypeSchema}
 use Rattle.type_schema.specs.declared.rows.TypeSchema.TheVariants.{OfVertices, OfEdges}
 use Rattle.type_schema.specs.declared.rows.Change.{Change}
-use Rattle.type_schema.specs.Layout.{schema_bytes, record_bytes, type_bytes, row_key, row_value, block, value_part, change_bytes}
+use Rattle.type_schema.specs.Layout.{name_bytes, schema_bytes, record_bytes, type_bytes, row_key, row_value, block, value_part, change_bytes}
 use Rattle.type_schema.specs.Schemas.{Schema}
 use Rattle.type_schema.specs.Formed.{is_counter, is_graph_number, is_vertex_list, is_edge_list, is_list, is_type, IsRecord, IsStoreKey, FitsKey, IsValueOf, HasForm}
 use Rattle.type_schema.specs.Reading.{schema_front, record_front}
 use Rattle.type_schema.proofs.LayoutLemmas.{schema_exact, record_exact}
 use Rattle.graph_changes.specs.Reading.{key_whole, graph_number_front, counter_front, schema_of, is_type_tag, type_schema_front, value_whole, part_of_tag, value_part_front, is_value_part, change_front}
+use Rattle.type_schema.proofs.SchemaLemmas.{short}
+use Rattle.graph_changes.proofs.SizeLemmas.{value_short}
 use Rattle.graph_changes.proofs.KeyLemmas.{whole_takes, graph_number_exact, key_exact_whole}
 
 -- ---- values
@@ -150,3 +156,90 @@ part_again (Some b) rest h = ap (option_map (λ (a : List ℕ × List ℕ). (Som
 
 part_exact : Exact value_part_front value_part (λ v. IfSome v Fits32)
 part_exact = record { takes = part_takes; again = part_again }
+
+-- ---- how long keys are
+
+key_length : (v : Value) → IsKey v → length (key_bytes v) ≤ 515
+key_length (Int n) h = omega arith
+key_length (Text t) h = omega (arith, escaped_length t, few_zeros t, h.1)
+key_length (Bytes b) h = omega (arith, escaped_length b, few_zeros b, h.1)
+
+-- a length that fits 32 bits
+row_key_short : (k : StoreKey) → IsStoreKey k → Fits32 (row_key k)
+row_key_short key.Counter h = omega arith
+row_key_short (key.Tenant t) h = omega (arith, short t h)
+row_key_short (key.Graph g) h = omega (arith, short g.tenant h.0, short g.name h.1, length-append g.tenant (47 ∷ g.name))
+row_key_short (key.TypeKey t) h = omega (arith, short t.name h.1, length-append (to_be_bytes w64 t.graph) (name_bytes t.name))
+row_key_short (key.Vertex v) h =
+    let first = length-append (to_be_bytes w64 v.graph) (name_bytes v.kind ++ key_bytes v.key) in
+    let second = length-append (name_bytes v.kind) (key_bytes v.key) in
+    omega (arith, short v.kind h.1.0, key_length v.key h.1.1, first, second)
+row_key_short (key.Edge e) h =
+    let a = length-append (to_be_bytes w64 e.graph) (name_bytes e.kind ++ (name_bytes e.from_kind ++ (key_bytes e.from ++ (name_bytes e.to_kind ++ key_bytes e.to)))) in
+    let b = length-append (name_bytes e.kind) (name_bytes e.from_kind ++ (key_bytes e.from ++ (name_bytes e.to_kind ++ key_bytes e.to))) in
+    let c = length-append (name_bytes e.from_kind) (key_bytes e.from ++ (name_bytes e.to_kind ++ key_bytes e.to)) in
+    let d = length-append (key_bytes e.from) (name_bytes e.to_kind ++ key_bytes e.to) in
+    let f = length-append (name_bytes e.to_kind) (key_bytes e.to) in
+    omega (arith, short e.kind h.1, short e.from_kind h.2.0, key_length e.from h.2.1, short e.to_kind h.3.0, key_length e.to h.3.1, a, b, c, d, f)
+
+-- ---- changes
+
+abbrev keyed_front : Front (StoreKey × Option (List ℕ))
+keyed_front = both (inside (sized (number w32)) key_whole) value_part_front
+
+abbrev keyed_bytes : StoreKey × Option (List ℕ) → List ℕ
+keyed_bytes x = block (row_key x.0) ++ value_part x.1
+
+abbrev Keyed : StoreKey × Option (List ℕ) → Type 0
+Keyed x = (IsStoreKey x.0 × Fits32 (row_key x.0)) × IfSome x.1 Fits32
+
+abbrev fit : StoreKey × Option (List ℕ) → Bool
+fit x = is_value_part x.0 x.1
+
+abbrev change_of : StoreKey × Option (List ℕ) → Change
+change_of x = record { key = x.0; value = x.1 }
+
+abbrev parts_of : Change → StoreKey × Option (List ℕ)
+parts_of c = (c.key, c.value)
+
+keyed_exact : Exact keyed_front keyed_bytes Keyed
+keyed_exact = both_exact (inside (sized (number w32)) key_whole) (λ k. block (row_key k)) (λ k. IsStoreKey k × Fits32 (row_key k))
+    (inside_exact (number w32) (to_be_bytes w32) (λ n. n < 2 ^ 32) number32_exact key_whole row_key IsStoreKey key_exact_whole)
+    value_part_front value_part (λ v. IfSome v Fits32) part_exact
+
+changed_exact : Exact (made change_of (tested fit keyed_front)) change_bytes (λ c. Keyed (parts_of c) × (fit (parts_of c) ≡ true))
+changed_exact = made_exact (tested fit keyed_front) keyed_bytes (λ x. Keyed x × (fit x ≡ true)) (tested_exact keyed_front keyed_bytes Keyed keyed_exact fit)
+    change_of parts_of (λ x h. refl) (λ c h. refl)
+
+some_of : {A : Type 0} (o : Option A) → is_some o ≡ true → (a : A) × (o ≡ Some a)
+some_of (Some a) h = (a, refl)
+some_of None h = absurd (false≢true h)
+
+value_is : (k : StoreKey) (v : Option (List ℕ)) → IsBytes (value_part v) → is_value_part k v ≡ true → IfSome v (IsValueOf k)
+value_is k None fits h = tt
+value_is k (Some b) fits h =
+    let found = some_of (value_whole k b) h in
+    let one = (value_exact_whole k).takes b found.0 (bytes_behind (1 ∷ to_be_bytes w32 (length b)) b fits) found.1 in
+    (found.0, one.0, one.1)
+
+is_value : (k : StoreKey) (v : Option (List ℕ)) → IfSome v (IsValueOf k) → is_value_part k v ≡ true
+is_value k None h = refl
+is_value k (Some b) h = ap (λ z. is_some (value_whole k z)) h.2 ∙ ap is_some ((value_exact_whole k).again h.0 h.1)
+
+value_fits : (k : StoreKey) (v : Option (List ℕ)) → IfSome v (IsValueOf k) → IfSome v Fits32
+value_fits k None h = tt
+value_fits k (Some b) h = omega (arith, value_short k b h)
+
+change_takes : (bytes : List ℕ) (c : Change × List ℕ) → IsBytes bytes → change_front bytes ≡ Some c → HasForm c.0 × (bytes ≡ change_bytes c.0 ++ c.1)
+unfolding change_front
+change_takes bytes c fits e =
+    let one = changed_exact.takes bytes c fits e in
+    let part = bytes_behind (block (row_key c.0.key)) (value_part c.0.value) (bytes_front (change_bytes c.0) c.1 (subst IsBytes one.1 fits)) in
+    ((one.0.0.0.0, value_is c.0.key c.0.value part one.0.1), one.1)
+
+change_again : (c : Change) (rest : List ℕ) → HasForm c → change_front (change_bytes c ++ rest) ≡ Some (c, rest)
+unfolding change_front
+change_again c rest h = changed_exact.again c rest (((h.0, row_key_short c.key h.0), value_fits c.key c.value h.1), is_value c.key c.value h.1)
+
+pub change_exact : Exact change_front change_bytes HasForm
+change_exact = record { takes = change_takes; again = change_again }

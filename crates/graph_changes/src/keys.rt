@@ -22,6 +22,7 @@ fn push_graph(out: &mut Bin, graph: &GraphName) -> Result<(), Memory>
     Ok(())
 }
 
+#[tactic(auto, using(type_schema::proofs::SchemaLemmas::short))]
 fn push_type(out: &mut Bin, t: &TypeName) -> Result<(), Memory>
     requires { IsStoreKey (StoreKey.TypeKey t.now) }
     ensures { OnOk result (out.new ≡ out.old ++ row_key (StoreKey.TypeKey t.now)) }
@@ -31,6 +32,7 @@ fn push_type(out: &mut Bin, t: &TypeName) -> Result<(), Memory>
     push_name(out, &t.name)
 }
 
+#[tactic(auto, using(type_schema::proofs::SchemaLemmas::short))]
 fn push_vertex(out: &mut Bin, v: &VertexName) -> Result<(), Memory>
     requires { IsStoreKey (StoreKey.Vertex v.now) }
     ensures { OnOk result (out.new ≡ out.old ++ row_key (StoreKey.Vertex v.now)) }
@@ -41,6 +43,7 @@ fn push_vertex(out: &mut Bin, v: &VertexName) -> Result<(), Memory>
     push_key(out, &v.key)
 }
 
+#[tactic(auto, using(type_schema::proofs::SchemaLemmas::short))]
 fn push_edge(out: &mut Bin, e: &EdgeName) -> Result<(), Memory>
     requires { IsStoreKey (StoreKey.Edge e.now) }
     ensures { OnOk result (out.new ≡ out.old ++ row_key (StoreKey.Edge e.now)) }

@@ -11,6 +11,7 @@ use std::alloc::Global;
 use type_schema::{Change, Changes, StoreKey};
 
 // The bytes that a key takes.
+#[tactic(auto, using(type_schema::proofs::SchemaLemmas::short))]
 fn store_key_size(key: &StoreKey) -> usize
     requires { IsStoreKey key.now }
     ensures { result ≡ length (row_key key.now) }
@@ -29,6 +30,7 @@ fn store_key_size(key: &StoreKey) -> usize
 }
 
 /// The bytes that a change takes, without the tag and the stamp that a store puts in front.
+#[tactic(auto, using(crate::proofs::SizeLemmas::value_short))]
 pub fn size(change: &Change) -> usize
     requires { HasForm change.now }
     ensures { result ≡ length (change_bytes change.now) }
@@ -41,6 +43,7 @@ pub fn size(change: &Change) -> usize
 }
 
 /// Puts the bytes of a change at the end. After `Memory` a part of them may stand there.
+#[tactic(auto, using(crate::proofs::SizeLemmas::value_short))]
 pub fn push_change(out: &mut Bin, change: &Change) -> Result<(), Memory>
     requires { HasForm change.now }
     ensures { OnOk result (out.new ≡ out.old ++ change_bytes change.now) }

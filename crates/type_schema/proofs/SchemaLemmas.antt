@@ -8,7 +8,8 @@ use Rattle.std.proofs.lemmas.Str.{IsUtf8-from_ascii, is_utf8-from_IsUtf8}
 use Rattle.a1_base.specs.declared.limits.TheConstants.{ATTRIBUTE_LIMIT, NAME_LIMIT}
 use Rattle.type_schema.specs.declared.schema.Attr.{Attr}
 use Rattle.type_schema.specs.Names.{Name, is_letter, is_digit, is_name_byte, is_name}
-use Rattle.type_schema.specs.Formed.{differ, is_list}
+use Rattle.type_schema.specs.declared.rows.TypeSchema.TheVariants.{OfVertices, OfEdges}
+use Rattle.type_schema.specs.Formed.{differ, is_list, is_vertex_list, is_edge_list, is_type}
 
 pub few_attributes : (schema : List Attr) → IsTrue (is_list schema) → length schema < 256
 unfolding is_list
@@ -69,3 +70,13 @@ name_is_text (b ∷ name) h =
     let parts = and_parts (is_letter b) _ h in
     let low : IsAscii (b ∷ name) = all_low (b ∷ name) (and_from _ _ (letter_first b parts.0) (and_parts _ _ parts.1).0) in
     is_utf8-from_IsUtf8 (b ∷ name) (IsUtf8-from_ascii (b ∷ name) low)
+
+-- ---- the schema of a type
+
+pub list_of_vertices : (schema : List Attr) → IsTrue (is_type (OfVertices schema)) → IsTrue (is_list schema)
+unfolding is_type
+list_of_vertices schema h = (and_parts (is_vertex_list schema) _ h).1
+
+pub list_of_edges : (schema : List Attr) → IsTrue (is_type (OfEdges schema)) → IsTrue (is_list schema)
+unfolding is_type
+list_of_edges schema h = (and_parts (is_edge_list schema) _ h).1
