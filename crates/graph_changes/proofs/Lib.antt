@@ -1,3 +1,4 @@
 pub mod KeyLemmas
 pub mod RowLemmas
 pub mod SizeLemmas
+pub mod ReadLemmas

@@ -5,7 +5,6 @@ ghost use Rattle.type_schema.specs.Layout.{changes_bytes};
 ghost use Rattle.type_schema.specs.Formed.{AreChanges};
 ghost use Rattle.graph_changes.specs.Reading.{part_of_tag, value_part_front, is_value_part, change_front};
 ghost use Rattle.graph_changes.specs.Broken.{IsChangeFault, Gives};
-
 ghost use Rattle.type_schema.specs.declared.rows.Change.{Change};
 
 use crate::ChangeFault;
@@ -83,13 +82,8 @@ pub fn front_change(alloc: Global, bytes: &[u8]) -> Result<(Change, &[u8]), Read
     Ok((Change { key, value }, rest))
 }
 
-/// The changes that bytes are: their items as a store keeps them, without tag and stamp, one behind the other.
-pub fn read(alloc: Global, bytes: &[u8]) -> Result<Changes, ChangeFault>
-    // What is read is spelled so.
+fn read_all(alloc: Global, bytes: &[u8]) -> Result<Changes, ChangeFault>
     ensures found { IfOk result (λ changes. AreChanges changes × (bytes.now ≡ changes_bytes changes)) }
-    // What is spelled so is read, unless memory is wanting.
-    ensures only { (changes : List Change) → AreChanges changes → bytes.now ≡ changes_bytes changes → Gives result changes }
-    // Where the first item that is none begins.
     ensures bad { IfErr result (IsChangeFault bytes.now) }
 {
     let mut steps = Vec::new(alloc);
@@ -108,4 +102,17 @@ pub fn read(alloc: Global, bytes: &[u8]) -> Result<Changes, ChangeFault>
         }
     }
     Ok(Changes { steps })
+}
+
+/// The changes that bytes are: their items as a store keeps them, without tag and stamp, one behind the other.
+#[tactic(auto, using(crate::proofs::ReadLemmas::only))]
+pub fn read(alloc: Global, bytes: &[u8]) -> Result<Changes, ChangeFault>
+    // What is read is spelled so.
+    ensures found { IfOk result (λ changes. AreChanges changes × (bytes.now ≡ changes_bytes changes)) }
+    // What is spelled so is read, unless memory is wanting.
+    ensures only { (changes : List Change) → AreChanges changes → bytes.now ≡ changes_bytes changes → Gives result changes }
+    // Where the first item that is none begins.
+    ensures bad { IfErr result (IsChangeFault bytes.now) }
+{
+    read_all(alloc, bytes)
 }

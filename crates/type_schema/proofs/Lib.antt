@@ -2,3 +2,4 @@ pub mod SchemaLemmas
 pub mod Several
 pub mod SizeLemmas
 pub mod LayoutLemmas
+pub mod CheckLemmas

@@ -8,7 +8,7 @@ use Rattle.a1_value.specs.declared.given.Given.{Given}
 use Rattle.a1_value.specs.declared.given.Given.TheVariants as given
 use Rattle.a1_value.specs.declared.value.Value.{Value}
 use Rattle.a1_value.specs.declared.value.Value.TheVariants as value
-use Rattle.a1_value.specs.Encoding.{value_size, value_bytes}
+use Rattle.a1_value.specs.Encoding.{value_size}
 use Rattle.type_schema.specs.declared.schema.Attr.{Attr}
 use Rattle.type_schema.specs.declared.schema.Kind.{Kind}
 use Rattle.type_schema.specs.declared.schema.Kind.TheVariants as kind
@@ -156,7 +156,7 @@ merged (a ∷ schema) [] members = Err (fault.Missing a.name)
 
 -- ---- what a reader answers
 
-abbrev pub Checks : Result Record SchemaFault → Result Record SchemaFault → Type 0
-Checks (Ok values) wanted = wanted ≡ Ok values
+abbrev pub Checks : {X : Type 0} → Result X SchemaFault → Result X SchemaFault → Type 0
+Checks (Ok x) wanted = wanted ≡ Ok x
 Checks (Err fault.Memory) wanted = ⊤
 Checks (Err f) wanted = wanted ≡ Err f

@@ -1,6 +1,6 @@
 //! Why a request's members make no record.
 use a1_base::Txt;
-use std::alloc::AllocError;
+use std::alloc::{AllocError, AllocFailed};
 
 /// Why members make no record of a schema: the first fault in this order. Where an attribute has it, it is named.
 #[derive(Debug, Drop)]
@@ -26,6 +26,17 @@ impl From<AllocError> for SchemaFault {
     ghost from_gives = { λ _ fault. fault ≡ Memory };
 
     fn from(_: AllocError) -> Self {
+        SchemaFault::Memory
+    }
+}
+
+impl<T: Drop> From<AllocFailed<T>> for SchemaFault {
+    ghost use Rattle.std.specs.Prelude.{◌≡◌};
+    ghost use Rattle.type_schema.specs.declared.fault.SchemaFault.TheVariants.{Memory};
+
+    ghost from_gives = { λ _ fault. fault ≡ Memory };
+
+    fn from(_: AllocFailed<T>) -> Self {
         SchemaFault::Memory
     }
 }

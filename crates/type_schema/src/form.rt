@@ -41,7 +41,7 @@ pub fn name_of(bytes: &[u8]) -> Option<&str>
     if is_name(bytes) { text_of(bytes) } else { None }
 }
 
-fn is_attr(attrs: &[Attr], name: &str) -> bool
+pub fn is_attr(attrs: &[Attr], name: &str) -> bool
     ensures { result ≡ is_attr attrs.now name.now }
 {
     attrs

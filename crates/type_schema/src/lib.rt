@@ -4,6 +4,7 @@
 //! record must be to fit its schema; it knows neither graphs nor where rows are kept.
 #![tactic(auto)]
 
+mod checking;
 mod fault;
 mod form;
 mod laws;
@@ -12,7 +13,10 @@ mod names;
 mod rows;
 mod schema;
 mod size;
+#[cfg(test)]
+mod tests;
 
+pub use checking::{check, merge};
 pub use fault::SchemaFault;
 pub use form::{is_type, name_of};
 pub use laws::layouts_read_back;
