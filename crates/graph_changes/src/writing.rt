@@ -1,5 +1,5 @@
 //! From changes to bytes.
-ghost use Rattle.std.specs.Prelude.{◌≡◌, ◌++◌, length, OnOk, IfOk};
+ghost use Rattle.std.specs.Prelude.{◌≡◌, ◌++◌, ◌<◌, length, OnOk, IfOk};
 ghost use Rattle.a1_value.specs.Encoding.{IsKey};
 ghost use Rattle.type_schema.specs.Layout.{name_bytes, row_key, value_part, change_bytes, changes_bytes};
 ghost use Rattle.type_schema.specs.Formed.{IsEnd, IsStoreKey, HasForm, AreChanges};
@@ -14,7 +14,8 @@ use type_schema::{Change, Changes, StoreKey};
 #[tactic(auto, using(type_schema::proofs::SchemaLemmas::short))]
 fn store_key_size(key: &StoreKey) -> usize
     requires { IsStoreKey key.now }
-    ensures { result ≡ length (row_key key.now) }
+    ensures size { result ≡ length (row_key key.now) }
+    ensures bound { result < 2048 }
 {
     match key {
         StoreKey::Counter => 1,
@@ -61,12 +62,23 @@ pub fn push_change(out: &mut Bin, change: &Change) -> Result<(), Memory>
     Ok(())
 }
 
+// The bytes that changes take, or more than there can be.
+fn room(changes: &[Change]) -> usize
+    requires { AreChanges changes.now }
+{
+    let mut room: usize = 0;
+    for change in changes {
+        room = room.saturating_add(size(change));
+    }
+    room
+}
+
 /// The bytes of changes, one behind the other.
 pub fn write(alloc: Global, changes: &Changes) -> Result<Bin, Memory>
     requires { AreChanges changes.now }
     ensures { IfOk result (λ bytes. bytes ≡ changes_bytes changes.now) }
 {
-    let mut out = Bin::new(alloc);
+    let mut out = Bin::with_capacity(alloc, room(&changes.steps))?;
     for change in &changes.steps {
         push_change(&mut out, change)?;
     }
