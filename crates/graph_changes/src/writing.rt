@@ -44,7 +44,6 @@ pub fn size(change: &Change) -> usize
 }
 
 /// Puts the bytes of a change at the end. After `Memory` a part of them may stand there.
-#[tactic(auto, using(crate::proofs::SizeLemmas::value_short))]
 pub fn push_change(out: &mut Bin, change: &Change) -> Result<(), Memory>
     requires { HasForm change.now }
     ensures { OnOk result (out.new ≡ out.old ++ change_bytes change.now) }
