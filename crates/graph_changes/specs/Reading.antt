@@ -1,8 +1,7 @@
 -- For the clauses of the readers of keys, values and changes.
-use Rattle.std.specs.Prelude.{ℕ, List, [], ◌∷◌, length, take, drop, ◌+◌, Bool, true, ◌&&◌, nat_le, ◌==◌, if◌then◌else◌, Option, Some, None, is_some, option_map, option_and_then}
+use Rattle.std.specs.Prelude.{ℕ, List, [], ◌∷◌, length, Bool, true, ◌&&◌, nat_le, ◌==◌, if◌then◌else◌, Option, Some, None, is_some, option_map, option_and_then}
 use Rattle.std.specs.Int.{w32, w64}
 use Rattle.a1_base.specs.Fronts.{Front, byte, number, both, made, tested, sized, whole, inside}
-use Rattle.a1_value.specs.declared.value.Value.{Value}
 use Rattle.a1_value.specs.Encoding.{key_front}
 use Rattle.type_schema.specs.declared.names.GraphName.{GraphName}
 use Rattle.type_schema.specs.declared.names.TypeName.{TypeName}

@@ -1,5 +1,5 @@
 //! Store keys as bytes.
-ghost use Rattle.std.specs.Prelude.{◌≡◌, ◌++◌, ◌<◌, length, option_map, OnOk};
+ghost use Rattle.std.specs.Prelude.{◌≡◌, ◌++◌, option_map, OnOk};
 ghost use Rattle.a1_base.specs.Fronts.{whole, ReadsFront, ReadsWhole};
 ghost use Rattle.type_schema.specs.Layout.{row_key};
 ghost use Rattle.type_schema.specs.Formed.{IsStoreKey};
@@ -8,7 +8,9 @@ ghost use Rattle.graph_changes.specs.Reading.{name_whole, cut, graph_whole, grap
 use a1_base::{Bin, GRAPH_NUMBER_LIMIT, Memory, ReadFault, Txt, front_byte, front_u64, push_u64};
 use a1_value::{front_key, push_key};
 use std::alloc::Global;
-use type_schema::{EdgeName, GraphName, StoreKey, TypeName, VertexName, front_name, name_of, push_name};
+use type_schema::{
+    EdgeName, GraphName, StoreKey, TypeName, VertexName, front_name, name_of, push_name,
+};
 
 // ---- writing
 

@@ -9,7 +9,10 @@ ghost use Rattle.graph_changes.specs.Reading.{counter_front, graph_number_front,
 use crate::keys::front_graph_number;
 use a1_base::{Bin, GRAPH_NUMBER_LIMIT, Memory, ReadFault, front_byte, front_u64, push_u64};
 use std::alloc::Global;
-use type_schema::{Record, Schema, StoreKey, StoreValue, TypeSchema, front_record, front_schema, is_type, push_record, push_schema};
+use type_schema::{
+    Record, Schema, StoreKey, StoreValue, TypeSchema, front_record, front_schema, is_type,
+    push_record, push_schema,
+};
 
 // ---- writing
 
@@ -133,11 +136,7 @@ fn number_value(number: Option<u64>) -> Result<StoreValue, ReadFault>
 
 /// The value of this key that bytes are. `Malformed` comes exactly where they are none.
 #[tactic(auto, unfolding(crate::specs::Reading::value_whole))]
-pub fn decode_value(
-    alloc: Global,
-    key: &StoreKey,
-    bytes: &[u8],
-) -> Result<StoreValue, ReadFault>
+pub fn decode_value(alloc: Global, key: &StoreKey, bytes: &[u8]) -> Result<StoreValue, ReadFault>
     ensures { ReadsWhole result (value_whole key.now bytes.now) }
 {
     match key {
@@ -151,6 +150,8 @@ pub fn decode_value(
         }
         StoreKey::Graph(_) => number_value(whole_graph_number(bytes)),
         StoreKey::TypeKey(_) => Ok(StoreValue::Schema(whole_type_schema(alloc, bytes)?)),
-        StoreKey::Vertex(_) | StoreKey::Edge(_) => Ok(StoreValue::Record(whole_record(alloc, bytes)?)),
+        StoreKey::Vertex(_) | StoreKey::Edge(_) => Ok(StoreValue::Record(whole_record(
+            alloc, bytes,
+        )?)),
     }
 }

@@ -1,8 +1,7 @@
 //! From changes to bytes.
 ghost use Rattle.std.specs.Prelude.{◌≡◌, ◌++◌, ◌<◌, length, OnOk, IfOk};
-ghost use Rattle.a1_value.specs.Encoding.{IsKey};
-ghost use Rattle.type_schema.specs.Layout.{name_bytes, row_key, value_part, change_bytes, changes_bytes};
-ghost use Rattle.type_schema.specs.Formed.{IsEnd, IsStoreKey, HasForm, AreChanges};
+ghost use Rattle.type_schema.specs.Layout.{row_key, change_bytes, changes_bytes};
+ghost use Rattle.type_schema.specs.Formed.{IsStoreKey, HasForm, AreChanges};
 
 use crate::keys::push_store_key;
 use a1_base::{Bin, Memory, push_u32};
@@ -24,7 +23,10 @@ fn store_key_size(key: &StoreKey) -> usize
         StoreKey::TypeKey(t) => 10 + t.name.as_bytes().len(),
         StoreKey::Vertex(v) => 10 + v.kind.as_bytes().len() + key_size(&v.key),
         StoreKey::Edge(e) => {
-            let ends = e.from_kind.as_bytes().len() + key_size(&e.from) + e.to_kind.as_bytes().len() + key_size(&e.to);
+            let ends = e.from_kind.as_bytes().len()
+                + key_size(&e.from)
+                + e.to_kind.as_bytes().len()
+                + key_size(&e.to);
             12 + e.kind.as_bytes().len() + ends
         }
     }
@@ -61,7 +63,7 @@ pub fn push_change(out: &mut Bin, change: &Change) -> Result<(), Memory>
     Ok(())
 }
 
-// The bytes that changes take, or more than there can be.
+// The bytes that changes take, at most the largest `usize`.
 fn room(changes: &[Change]) -> usize
     requires { AreChanges changes.now }
 {

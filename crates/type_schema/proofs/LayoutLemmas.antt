@@ -1,12 +1,11 @@
 -- Names, schemas and records read back.
-use Rattle.std.proofs.Common.{◌≡◌, ℕ, zero, suc, ◌<◌, ◌≤◌, Bool, true, false, List, [], ◌∷◌, ◌++◌, length, refl, sym, ap, arith, nat_le, nat_eq}
-use Rattle.std.specs.Prelude.{◌&&◌, IsTrue, ⊤}
+use Rattle.std.proofs.Common.{◌≡◌, ℕ, zero, suc, ◌<◌, Bool, true, false, List, [], ◌∷◌, ◌++◌, length, refl, arith, nat_le, nat_eq}
+use Rattle.std.specs.Prelude.{IsTrue, ⊤}
 use Rattle.std.specs.List.{list_all, AllByRecursion}
-use Rattle.std.proofs.lemmas.Bool.{false≢true, and_parts, and_from, leb-true, le-leb, eq-eqb, ne_eqb}
+use Rattle.std.proofs.lemmas.Bool.{false≢true, and_parts, leb-true, le-leb}
 use Rattle.a1_base.specs.declared.limits.TheConstants.{RECORD_LIMIT}
-use Rattle.a1_base.specs.Fronts.{Front, byte, both, made, tested, counted, sized, Exact}
+use Rattle.a1_base.specs.Fronts.{byte, both, made, tested, counted, sized, Exact}
 use Rattle.a1_base.proofs.Exact.{byte_exact, sized_exact, tested_exact, made_exact, both_exact, counted_exact, same_exact}
-use Rattle.a1_value.specs.declared.value.Value.{Value}
 use Rattle.a1_value.specs.Encoding.{IsStored, value_bytes, stored_front}
 use Rattle.a1_value.proofs.ValueLemmas.{value_exact}
 use Rattle.type_schema.specs.declared.schema.Attr.{Attr}
@@ -14,7 +13,7 @@ use Rattle.type_schema.specs.declared.schema.Kind.{Kind}
 use Rattle.type_schema.specs.declared.schema.Kind.TheVariants as kind
 use Rattle.type_schema.specs.Names.{Name, is_name}
 use Rattle.type_schema.specs.Layout.{name_bytes, kind_code, flag, attr_bytes, schema_bytes, record_bytes}
-use Rattle.type_schema.specs.Formed.{differ, is_list, IsRecord}
+use Rattle.type_schema.specs.Formed.{is_list, IsRecord}
 use Rattle.type_schema.specs.Reading.{name_front, is_kind_code, kind_of, kind_front, flag_front, attr_front, schema_front, is_short, record_front}
 use Rattle.type_schema.proofs.SchemaLemmas.{few_attributes, short}
 
@@ -55,7 +54,7 @@ kind_exact : Exact kind_front (λ k. kind_code k ∷ []) (λ k. ⊤)
 unfolding kind_front
 kind_exact = same_exact (made kind_of (tested is_kind_code byte)) (λ k. kind_code k ∷ []) (λ k. IsByte (kind_code k) × (is_kind_code (kind_code k) ≡ true)) (λ k. ⊤)
     (made_exact (tested is_kind_code byte) one_byte (λ code. IsByte code × (is_kind_code code ≡ true)) (tested_exact byte one_byte IsByte byte_exact is_kind_code)
-        kind_of kind_code (λ code h. kind_back code h.1) (λ k h. kind_there k))
+    kind_of kind_code (λ code h. kind_back code h.1) (λ k h. kind_there k))
     (λ k h. tt) (λ k h. kind_fits k)
 
 flag_back : (code : ℕ) → nat_le code 1 ≡ true → flag (nat_eq code 1) ≡ code
@@ -75,7 +74,7 @@ flag_exact : Exact flag_front (λ b. flag b ∷ []) (λ b. ⊤)
 unfolding flag_front
 flag_exact = same_exact (made (λ code. nat_eq code 1) (tested (λ code. nat_le code 1) byte)) (λ b. flag b ∷ []) (λ b. IsByte (flag b) × (nat_le (flag b) 1 ≡ true)) (λ b. ⊤)
     (made_exact (tested (λ code. nat_le code 1) byte) one_byte (λ code. IsByte code × (nat_le code 1 ≡ true)) (tested_exact byte one_byte IsByte byte_exact (λ code. nat_le code 1))
-        (λ code. nat_eq code 1) flag (λ code h. flag_back code h.1) (λ b h. flag_there b))
+    (λ code. nat_eq code 1) flag (λ code h. flag_back code h.1) (λ b h. flag_there b))
     (λ b h. tt) (λ b h. flag_fits b)
 
 abbrev Named : Attr → Type 0
@@ -91,9 +90,9 @@ attr_exact : Exact attr_front attr_bytes Named
 unfolding attr_front
 attr_exact = same_exact (made of_parts (both name_front (both kind_front flag_front))) attr_bytes (λ a. Named a × (⊤ × ⊤)) Named
     (made_exact (both name_front (both kind_front flag_front)) (λ x. name_bytes x.0 ++ kind_code x.1.0 ∷ flag x.1.1 ∷ []) (λ x. IsTrue (is_name x.0) × (⊤ × ⊤))
-        (both_exact name_front name_bytes (λ name. IsTrue (is_name name)) name_exact (both kind_front flag_front) (λ x. (kind_code x.0 ∷ []) ++ (flag x.1 ∷ [])) (λ x. ⊤ × ⊤)
-            (both_exact kind_front (λ k. kind_code k ∷ []) (λ k. ⊤) kind_exact flag_front (λ b. flag b ∷ []) (λ b. ⊤) flag_exact))
-        of_parts parts (λ x h. refl) (λ a h. refl))
+    (both_exact name_front name_bytes (λ name. IsTrue (is_name name)) name_exact (both kind_front flag_front) (λ x. (kind_code x.0 ∷ []) ++ (flag x.1 ∷ [])) (λ x. ⊤ × ⊤)
+    (both_exact kind_front (λ k. kind_code k ∷ []) (λ k. ⊤) kind_exact flag_front (λ b. flag b ∷ []) (λ b. ⊤) flag_exact))
+    of_parts parts (λ x h. refl) (λ a h. refl))
     (λ a h. h.0) (λ a h. (h, (tt, tt)))
 
 -- ---- schemas

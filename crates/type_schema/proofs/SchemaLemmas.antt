@@ -1,6 +1,6 @@
 -- What the form of a schema says of its attributes.
-use Rattle.std.proofs.Common.{◌≡◌, ℕ, zero, suc, ◌<◌, ◌≤◌, Bool, true, false, List, [], ◌∷◌, length, get_or, arith, nat_le, nat_eq, inl, inr}
-use Rattle.std.specs.Prelude.{◌&&◌, ◌||◌, ◌⊎◌, IsTrue}
+use Rattle.std.proofs.Common.{◌≡◌, ℕ, zero, suc, ◌<◌, true, List, [], ◌∷◌, length, get_or, arith, nat_le, nat_eq, inl, inr}
+use Rattle.std.specs.Prelude.{◌||◌, ◌⊎◌, IsTrue}
 use Rattle.std.specs.List.{list_all}
 use Rattle.std.proofs.lemmas.Bool.{and_parts, and_from, or_cases, or_left, leb-true, eqb-true}
 use Rattle.std.specs.Str.{IsAscii, is_utf8}
@@ -9,7 +9,7 @@ use Rattle.a1_base.specs.declared.limits.TheConstants.{ATTRIBUTE_LIMIT, NAME_LIM
 use Rattle.type_schema.specs.declared.schema.Attr.{Attr}
 use Rattle.type_schema.specs.Names.{Name, is_letter, is_digit, is_name_byte, is_name}
 use Rattle.type_schema.specs.declared.rows.TypeSchema.TheVariants.{OfVertices, OfEdges}
-use Rattle.type_schema.specs.Formed.{differ, is_list, is_vertex_list, is_edge_list, is_type}
+use Rattle.type_schema.specs.Formed.{is_list, is_vertex_list, is_edge_list, is_type}
 
 pub few_attributes : (schema : List Attr) → IsTrue (is_list schema) → length schema < 256
 unfolding is_list

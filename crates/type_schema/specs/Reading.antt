@@ -1,5 +1,5 @@
 -- For the clauses of the readers of names, schemas and records.
-use Rattle.std.specs.Prelude.{ℕ, List, Bool, ◌&&◌, nat_le, length, ◌==◌, if◌then◌else◌, Option}
+use Rattle.std.specs.Prelude.{ℕ, Bool, ◌&&◌, nat_le, length, ◌==◌, if◌then◌else◌}
 use Rattle.a1_base.specs.declared.limits.TheConstants.{RECORD_LIMIT}
 use Rattle.a1_base.specs.Fronts.{Front, byte, both, made, tested, counted, sized}
 use Rattle.a1_value.specs.Encoding.{stored_front}

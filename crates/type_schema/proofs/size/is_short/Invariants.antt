@@ -1,4 +1,4 @@
-use Rattle.std.proofs.Common.{◌≡◌, ◌≤◌, ◌+◌, length, take, drop}
+use Rattle.std.proofs.Common.{◌≡◌, ◌+◌, length, take}
 use Rattle.std.specs.List.{flat_map}
 use Rattle.a1_base.specs.declared.limits.TheConstants.{RECORD_LIMIT}
 use Rattle.a1_value.specs.Encoding.{value_bytes}
