@@ -1,6 +1,6 @@
 -- What the occupancy is, as a place of a made region is taken or given back, or a region is made.
-use Rattle.object_region.proofs.Words.{◌≡◌, ℕ, Bool, false, cond, eqb, not, ◌||◌, ◌&&◌, List, refl, sym, ap, ◌∙◌, arith, fun_ext, Some, nat_cmp, is_eq, keys_of, nat_tests, Addr, Made, is_taken, Occupancy, same_addr, with_place, without_place, Regions, made_at, taken_in, occupancy_of, with_region}
-use Rattle.object_region.proofs.Keys.{Changed, put_both, In_from_made, add_region_there, add_region_twice}
+use Rattle.object_region.proofs.Words.{◌≡◌, ℕ, Bool, false, cond, eqb, not, ◌||◌, ◌&&◌, List, refl, sym, ap, ◌∙◌, arith, fun_ext, Some, nat_cmp, is_eq, keys_of, nat_tests, Addr, Made, is_taken, Occupancy, same_addr, with_place, without_place, Regions, made_at, taken_in, occupancy_of, with_region, Option, BTreeMap, MutBor, option_copied_mut, WritesThrough}
+use Rattle.object_region.proofs.Keys.{Changed, put_both, In_from_made, add_region_there, add_region_twice, changed}
 
 abbrev occupied_by : ℕ → ℕ → List ℕ → (Addr → Bool) → Occupancy
 occupied_by node nodes ks t = record { node = node; nodes = nodes; regions = ks; taken = t }
@@ -32,7 +32,7 @@ module _ {node nodes : ℕ} {made : List (ℕ × Made)} {r : Regions} (is : regi
       same_occupancy node nodes _ _ _ _ (change.keys ∙ sym kept) (taken_put made made' a m w (λ s t. s || t) change here (λ _. refl))
       ∙ ap (λ r. with_place a (occupancy_of r)) is
 
-  pub given : (a : Addr) {m w : Made} → Changed made made' a.region m w
+  given : (a : Addr) {m w : Made} → Changed made made' a.region m w
       → ((j : ℕ) → is_taken w.region j ≡ (not (eqb a.offset j) && is_taken m.region j))
       → occupancy_of (regions_of node nodes made') ≡ without_place a (occupancy_of r)
   given a {m = m} {w = w} change here =
@@ -47,6 +47,14 @@ module _ {node nodes : ℕ} {made : List (ℕ × Made)} {r : Regions} (is : regi
       same_occupancy node nodes _ _ _ _ keys
       (λ b. put_both (λ o. taken_in o b.offset ≡ taken_at made b) k b.region w _ _ (put b.region) (λ same. rw same (here b.offset)) (λ _. refl))
       ∙ ap (λ r. record (occupancy_of r) { regions = f (occupancy_of r).regions }) is
+
+-- a place of the region that `get_mut` lent is given back
+pub given_back : {node nodes : ℕ} {r : Regions} {w : Made} {lent : Option (MutBor Made)} {x : MutBor Made} (m n : BTreeMap ℕ Made) (a : Addr)
+    → regions_of node nodes m.entries ≡ r → option_copied_mut lent ≡ made_at m.entries a.region → lent ≡ Some x
+    → WritesThrough nat_cmp (nat_cmp a.region) m w n
+    → ((j : ℕ) → is_taken w.region j ≡ (not (eqb a.offset j) && is_taken x.now.region j))
+    → occupancy_of (regions_of node nodes n.entries) ≡ without_place a (occupancy_of r)
+given_back {w = w} m n a is value some through here = given is n.entries a (changed m n a.region w _ _ value some through) here
 
 pub placed_twice : (a : Addr) (o : Occupancy) → with_place a (with_region a.region o) ≡ with_place a o
 placed_twice a o = same_occupancy o.node o.nodes _ _ _ _ (add_region_twice a.region o.regions) (λ _. refl)

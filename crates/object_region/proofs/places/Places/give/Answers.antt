@@ -1,7 +1,7 @@
 use Rattle.object_region.proofs.Words.{true, ap, ◌∙◌, refl, arith, heap_items, heap_capacity, IfOk-at_ok, Made, listed_in}
 use Rattle.object_region.proofs.Keys.{changed}
 use Rattle.object_region.proofs.Kept.{kept_listed, room_for}
-use Rattle.object_region.proofs.Taken.{given}
+use Rattle.object_region.proofs.Taken.{given_back}
 use Rattle.object_region.proofs.places.Places.give.Goals as goal
 
 pub unwrap-requires : goal.unwrap-requires
@@ -24,14 +24,8 @@ invariant_of-self c =
 
 pub returns-then-not-listed : goal.returns-then-not-listed
 returns-then-not-listed c =
-    let new : Made = record { region = c.give.new.self; listed = true } in
-    let change = changed c.self.inside.regions (c.get_mut.follows.lender new) c.args.place.region new _ _
-    c.get_mut.ensures.value c.unwrap-made.ensures (c.get_mut.follows.holds new) in
-    given c.self.view_is _ c.args.place change c.give.ensures
+    given_back c.self.inside.regions (c.get_mut.follows.lender _) c.args.place c.self.view_is c.get_mut.ensures.value c.unwrap-made.ensures (c.get_mut.follows.holds _) c.give.ensures
 
 pub returns-else-not-listed : goal.returns-else-not-listed
 returns-else-not-listed c =
-    let new : Made = record { region = c.give.new.self; listed = true } in
-    let change = changed c.self.inside.regions (c.get_mut.follows.lender new) c.args.place.region new _ _
-    c.get_mut.ensures.value c.unwrap-made.ensures (c.get_mut.follows.holds new) in
-    given c.self.view_is _ c.args.place change c.give.ensures
+    given_back c.self.inside.regions (c.get_mut.follows.lender _) c.args.place c.self.view_is c.get_mut.ensures.value c.unwrap-made.ensures (c.get_mut.follows.holds _) c.give.ensures
