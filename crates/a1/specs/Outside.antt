@@ -1,7 +1,8 @@
 -- What is seen of the outside in a call: of the source, the sink and the store.
-use Rattle.std.specs.Prelude.{◌≡◌, ℕ, ◌<◌, List, [], length, take, Option, Some, IfSome}
+use Rattle.std.specs.Prelude.{◌≡◌, ℕ, List, [], Option, Some, IfSome}
 use Rattle.std.specs.Io.KnownBytes.{append_known}
 use Rattle.a1_base.specs.Outside.{Rose}
+use Rattle.a1.specs.Streams.{WritesFront}
 
 -- one part of the outside: what it held before and after, where it tells that, and its counts of faults
 pub record Side (X : Type 0) : Type 0 where
@@ -49,5 +50,4 @@ IsWritten sink text = sink.after ≡ append_known sink.before text
 
 -- a front of the text, and not all of it, is written behind what was, because the sink failed
 abbrev pub IsCutShort : Side (List ℕ) → List ℕ → Type 0
-IsCutShort sink text = ((n : ℕ) × (n < length text) × (sink.after ≡ append_known sink.before (take n text)))
-    × HasFailed sink
+IsCutShort sink text = WritesFront sink.before sink.after text × HasFailed sink
