@@ -315,3 +315,6 @@ module _ (s : State) (r : Reached s) (t : TxnId) (x : Active) (nodes : List Node
         → (z.read_stamp ≡ x.read_stamp) × (z.write_stamp ≡ x.write_stamp) → read_set z.reads ≡ read_set x.reads → z.locked.items ≡ x.locked.items
         → At z (set nodes n v) t s × (s.clock ≡ s.clock)
     alloc_failed z = unchanged n d v z is_node
+
+-- where a draw leads
+pub ruleset draws = (draw_spent, clock_fits, draw_stamp)

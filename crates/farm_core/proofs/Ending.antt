@@ -135,3 +135,6 @@ module _ (farm : Farm) (s : State) (st : Stands farm s) (t : TxnId) (actor : IsA
           (λ u. other_stays t u (ended (s.transactions t)) s.transactions)
           (λ u a other. held_each s g new_entry (λ v b takes. takes) u a),
     )
+
+-- where a shut leads
+pub ruleset shuts = (shut_other, shut_held, shut_none, shut_free)

@@ -254,7 +254,7 @@ impl Active {
     }
 
     // Draws its write stamp.
-    #[tactic(auto, using(crate::proofs::Acting::draw_spent, crate::proofs::Acting::clock_fits, crate::proofs::Acting::draw_stamp))]
+    #[tactic(auto, using(crate::proofs::Acting::draws))]
     fn draw(&mut self, clock: &mut u64, transaction: TxnId) -> Answer
         requires { (nodes : List Node) × (s : State) × Reached s × AtClock self.old nodes clock.old transaction s
             × Meets s (event.Draw transaction) }

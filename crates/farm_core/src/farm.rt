@@ -66,7 +66,7 @@ impl Slot {
     }
 
     // Ends the transaction, if it is open and holds no lock, and says whether.
-    #[tactic(auto, using(crate::proofs::Ending::shut_other, crate::proofs::Ending::shut_held, crate::proofs::Ending::shut_none, crate::proofs::Ending::shut_free))]
+    #[tactic(auto, using(crate::proofs::Ending::shuts))]
     fn shut(&mut self, nodes: &[Node], transaction: TxnId) -> bool
         requires { 0 < length nodes.now }
         ensures { Shuts self.old nodes.now transaction result self.new }
