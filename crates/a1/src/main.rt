@@ -1,8 +1,8 @@
 //! The program: the top call over a source, a sink and a store, and `main`, which hands it the real ones.
 //!
-//! `a1` does all that the program does, and its contract is what the program promises. It calls the command that the words
-//! name, each in a file of its own. The layer turns words and bytes into a run or into events, and back; what a request
-//! means, how a session is served, and what an event is answered, stands in the libraries.
+//! `a1` does all that the program does, and its contract is what the program promises. It calls the command that the
+//! words name, each in a file of its own. The layer turns words and bytes into a run or into events, and back; what a
+//! request means, how a session is served, and what an event is answered, stands in the libraries.
 #![tactic(auto)]
 
 mod edge;

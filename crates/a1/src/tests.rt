@@ -21,8 +21,8 @@ const PUT_BOB: &str =
 
 const ASK_ANN: &str = "1 {\"ask\":{\"_type\":\"name\",\"id\":\"ann\"},\"graph\":\"sys/names\"}\n";
 
-// A call of the program, and what it must answer. It has the pieces of the script, and which read and which write fail, 0
-// for none.
+// A call of the program, and what it must answer. It has the pieces of the script, and which read and which write fail,
+// 0 for none.
 #[derive(Clone, Copy)]
 struct Case<'a> {
     words: &'a [&'a str],
@@ -44,7 +44,8 @@ const SERVED: Scripts = &[
     ),
     (
         &[PUT_ANN, ASK_ANN, PUT_ANN, PUT_BOB],
-        "1 {\"ok\":2}\n1 {\"at\":2,\"rows\":[{\"id\":\"ann\"}]}\n1 {\"at\":2,\"refused\":\"key_taken\"}\n1 {\"ok\":3}\n",
+        "1 {\"ok\":2}\n1 {\"at\":2,\"rows\":[{\"id\":\"ann\"}]}\n1 {\"at\":2,\"refused\":\"key_taken\"}\n\
+        1 {\"ok\":3}\n",
     ),
     (&[ASK_ANN], "1 {\"at\":1,\"rows\":[]}\n"),
     (&["1 hello\n"], "1 {\"bad\":\"not_built\"}\n"),

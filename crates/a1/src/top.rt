@@ -47,8 +47,8 @@ fn dispatch<T: Wait, R: Source, W: Sink, S: Store, G: Gate>(
 ///
 /// The status is 0 where the whole text of the command is written; 2 where the words are no command, with `usage`
 /// written; 3 where a read failed, with nothing written; 8 where a line breaks the command's grammar or the text is
-/// longer than 33,554,432 bytes, with `script L` written, L the first such line from 1 or 0 for the size; 4 where any of
-/// these texts was cut short, since a write failed or the sink took nothing of some bytes; 6 for want of memory.
+/// longer than 33,554,432 bytes, with `script L` written, L the first such line from 1 or 0 for the size; 4 where any
+/// of these texts was cut short, since a write failed or the sink took nothing of some bytes; 6 for want of memory.
 pub fn a1<T: Wait, R: Source, W: Sink, S: Store, G: Gate>(
     rt: &T,
     alloc: Global,

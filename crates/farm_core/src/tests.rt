@@ -183,12 +183,16 @@ fn events_are_answered_as_the_table_says(rt: HostRuntime) -> Result<(), Fail> {
     let first = answered(alloc, two_writers(alloc)?.as_slice());
     assert_eq!(rt;
         format!(in alloc; "{first:?}")?.as_str(),
-        "Ok(Some([Loaded, Loaded, At { stamp: 1 }, At { stamp: 1 }, Value { stamp: 1, bytes: Bin { bytes: [98] } }, Value { stamp: 1, bytes: Bin { bytes: [97] } }, Locked { seen: 1, bound: 1 }, Stamp { stamp: 2 }, No, Same, Put, Locked { seen: 1, bound: 2 }, Stamp { stamp: 3 }, Changed { seen: 1, now: 2 }, No, Unlocked, Shut, Shut]))"
+        "Ok(Some([Loaded, Loaded, At { stamp: 1 }, At { stamp: 1 }, Value { stamp: 1, bytes: Bin { bytes: [98] } }, \
+        Value { stamp: 1, bytes: Bin { bytes: [97] } }, Locked { seen: 1, bound: 1 }, Stamp { stamp: 2 }, No, Same, \
+        Put, Locked { seen: 1, bound: 2 }, Stamp { stamp: 3 }, Changed { seen: 1, now: 2 }, No, Unlocked, Shut, Shut]))"
     );
     let second = answered(alloc, a_place_again(alloc)?.as_slice());
     assert_eq!(rt;
         format!(in alloc; "{second:?}")?.as_str(),
-        "Ok(Some([Loaded, At { stamp: 1 }, Locked { seen: 1, bound: 1 }, Stamp { stamp: 2 }, Put, Shut, Collected { floor: 2, versions: 2, objects: 1 }, At { stamp: 2 }, Absent { stamp: 0 }, Placed { at: Addr { region: 0, offset: 0 }, bound: 2 }, No]))"
+        "Ok(Some([Loaded, At { stamp: 1 }, Locked { seen: 1, bound: 1 }, Stamp { stamp: 2 }, Put, Shut, \
+        Collected { floor: 2, versions: 2, objects: 1 }, At { stamp: 2 }, Absent { stamp: 0 }, \
+        Placed { at: Addr { region: 0, offset: 0 }, bound: 2 }, No]))"
     );
     Ok(())
 }

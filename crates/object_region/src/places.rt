@@ -133,8 +133,8 @@ impl Places {
         self.regions.len() as u32
     }
 
-    /// The place that comes next: the least free place of the lowest made region that has one, else the first place of the
-    /// lowest region that is not made; none where all places of all regions are taken. The places stay as they are.
+    /// The place that comes next: the least free place of the lowest made region that has one, else the first place of
+    /// the lowest region that is not made; none where all places of all regions are taken. The places stay as they are.
     pub fn least_free(&mut self) -> Option<Addr>
         ensures same { occupancy_of self.new ≡ occupancy_of self.old }
         ensures least { IfSome result (λ place. LeastFree (occupancy_of self.old) place) }

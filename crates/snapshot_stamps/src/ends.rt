@@ -14,8 +14,8 @@ use std::alloc::Global;
 impl Stamps {
     /// A clock that stands at the stamp `from`, and a seat for each of its lanes, which knows that stamp.
     ///
-    /// There is at least one lane, and `from` goes from 1 to 2^62 - 1. `Memory` where an allocation is refused; no other
-    /// call takes memory.
+    /// There is at least one lane, and `from` goes from 1 to 2^62 - 1. `Memory` where an allocation is refused; no
+    /// other call takes memory.
     pub fn new(alloc: Global, lanes: u32, from: u64) -> Result<(Stamps, Vec<StampSeat>), Memory>
         requires lanes { 0 < lanes }
         requires from { (0 < from) × (from ≤ LAST_STAMP) }
@@ -67,8 +67,8 @@ impl Stamps {
         (first, others)
     }
 
-    /// One seat in place of two: it has the lanes of both, knows what either knew, and has drawn what they drew. For the
-    /// end of a clock. It waits for nothing, and takes no memory.
+    /// One seat in place of two: it has the lanes of both, knows what either knew, and has drawn what they drew. For
+    /// the end of a clock. It waits for nothing, and takes no memory.
     pub fn unite(&self, first: StampSeat, second: StampSeat) -> StampSeat
         requires seats { IsSeatOf self.now first × IsSeatOf self.now second }
         ensures seat { IsSeatOf self.now result }

@@ -5,16 +5,22 @@ use farm_core::Answer;
 use std::test::Fail;
 
 const WRITE_SKEW: &str =
-    "load 0:0 aa\nload 1:0 bb\nbegin 1.1\nbegin 2.1\nread 1.1 0:0\nread 1.1 1:0\nread 2.1 0:0\nread 2.1 1:0\nlock 1.1 0:0 a1\ndraw 1.1\ncheck 1.1 1:0\nput 1.1 0:0\nlock 2.1 1:0 b2\ndraw 2.1\ncheck 2.1 0:0\nput 2.1 1:0\nunlock 2.1 1:0\nshut 2.1\nshut 1.1\n";
+    "load 0:0 aa\nload 1:0 bb\nbegin 1.1\nbegin 2.1\nread 1.1 0:0\nread 1.1 1:0\nread 2.1 0:0\nread 2.1 1:0\n\
+    lock 1.1 0:0 a1\ndraw 1.1\ncheck 1.1 1:0\nput 1.1 0:0\nlock 2.1 1:0 b2\ndraw 2.1\ncheck 2.1 0:0\nput 2.1 1:0\n\
+    unlock 2.1 1:0\nshut 2.1\nshut 1.1\n";
 
 const OLD_READ: &str =
-    "load 0:0 aa\nbegin 1.1\nbegin 2.1\nlock 1.1 0:0 ab\nread 2.1 0:0\ndraw 1.1\nput 1.1 0:0\nshut 1.1\nbegin 3.1\nlock 3.1 0:0 ac\nread 2.1 0:0\n";
+    "load 0:0 aa\nbegin 1.1\nbegin 2.1\nlock 1.1 0:0 ab\nread 2.1 0:0\ndraw 1.1\nput 1.1 0:0\nshut 1.1\nbegin 3.1\n\
+    lock 3.1 0:0 ac\nread 2.1 0:0\n";
 
 const FREED_PLACE: &str =
-    "load 0:0 aa\nbegin 1.1\nlock 1.1 0:0 -\ndraw 1.1\nput 1.1 0:0\nshut 1.1\nbegin 2.1\nalloc 2.1 1 cc\ndraw 2.1\nput 2.1 1:0\nshut 2.1\nbegin 3.1\nread 3.1 0:0\nshut 3.1\ncollect 0\nbegin 4.1\nalloc 4.1 0 dd\ndraw 4.1\nbegin 5.1\nread 5.1 0:0\nput 4.1 0:0\nread 5.1 0:0\n";
+    "load 0:0 aa\nbegin 1.1\nlock 1.1 0:0 -\ndraw 1.1\nput 1.1 0:0\nshut 1.1\nbegin 2.1\nalloc 2.1 1 cc\ndraw 2.1\n\
+    put 2.1 1:0\nshut 2.1\nbegin 3.1\nread 3.1 0:0\nshut 3.1\ncollect 0\nbegin 4.1\nalloc 4.1 0 dd\ndraw 4.1\n\
+    begin 5.1\nread 5.1 0:0\nput 4.1 0:0\nread 5.1 0:0\n";
 
 const PINNED: &str =
-    "load 0:0 aa\nbegin 1.1\nbegin 2.1\nlock 2.1 0:0 ab\ndraw 2.1\nput 2.1 0:0\nshut 2.1\ncollect 0\nread 1.1 0:0\nshut 1.1\ncollect 0\n";
+    "load 0:0 aa\nbegin 1.1\nbegin 2.1\nlock 2.1 0:0 ab\ndraw 2.1\nput 2.1 0:0\nshut 2.1\ncollect 0\nread 1.1 0:0\n\
+    shut 1.1\ncollect 0\n";
 
 #[test]
 fn texts_are_read_or_named_by_line(rt: HostRuntime) -> Result<(), Fail> {
@@ -83,7 +89,8 @@ fn a_lock_is_read_with_its_bytes(rt: HostRuntime) -> Result<(), Fail> {
     let alloc = rt.alloc();
     let events = read(alloc, 4, b"lock 7.21 13:40 00ff\n").expect(&rt, "ample memory");
     let wanted: &str =
-        "[Lock { t: TxnId { actor: 7, number: 21 }, at: Addr { region: 13, offset: 40 }, new: Some(Bin { bytes: [0, 255] }) }]";
+        "[Lock { t: TxnId { actor: 7, number: 21 }, at: Addr { region: 13, offset: 40 }, \
+        new: Some(Bin { bytes: [0, 255] }) }]";
     assert_eq!(rt; format!(in alloc; "{events:?}")?.as_str(), wanted);
     Ok(())
 }
@@ -128,7 +135,8 @@ fn answers_are_printed_in_words(rt: HostRuntime) -> Result<(), Fail> {
         print(alloc, &mut out, &answer).expect(&rt, "ample memory");
     }
     let wanted: &str =
-        "loaded\nat 1\nvalue 4 dd0a\nabsent 0\nheld 4.1\nplaced 1:20 3\nspent\nlocked 1 2\nchanged 1 2\nstamp 4611686018427387903\nsame\nput\nunlocked\nshut\nfloor 3 versions 2 objects 1\nno\n";
+        "loaded\nat 1\nvalue 4 dd0a\nabsent 0\nheld 4.1\nplaced 1:20 3\nspent\nlocked 1 2\nchanged 1 2\n\
+        stamp 4611686018427387903\nsame\nput\nunlocked\nshut\nfloor 3 versions 2 objects 1\nno\n";
     assert!(rt; out.as_slice() == wanted.as_bytes());
     Ok(())
 }

@@ -16,8 +16,8 @@ use std::snapshot::Snapshot;
 const OPENING: [u64; 3] = [0, 0, 1];
 
 impl<T: Keeps> Turnstile<T> {
-    /// A lock round the value, and the pass that holds the numbers 1 to `passes`, at least one. `Memory` comes, with the
-    /// value as it was, for want of memory alone.
+    /// A lock round the value, and the pass that holds the numbers 1 to `passes`, at least one. `Memory` comes, with
+    /// the value as it was, for want of memory alone.
     pub fn new(alloc: Global, value: T, passes: u32) -> Result<(Turnstile<T>, Pass<T>), (T, Memory)>
         requires passes { 0 < passes }
         requires stands { T.stands value (T.first value ∷ []) }
@@ -49,9 +49,9 @@ impl<T: Keeps> Turnstile<T> {
         }
     }
 
-    /// Takes the lock away, once all numbers have come back, and gives the value. It stands for a list that begins with all
-    /// that the pass had seen. The pass has seen the list's entries of each number from 1 on, and of number 0 the list
-    /// has its first entry alone.
+    /// Takes the lock away, once all numbers have come back, and gives the value. It stands for a list that begins with
+    /// all that the pass had seen. The pass has seen the list's entries of each number from 1 on, and of number 0 the
+    /// list has its first entry alone.
     pub fn close(self, pass: Pass<T>) -> T
         requires pass { IsPassOf self pass }
         requires all { HasAll (pass_count self) (numbers pass) }

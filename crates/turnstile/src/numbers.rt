@@ -43,8 +43,8 @@ impl<T: Keeps> Turnstile<T> {
         (Pass { seat }, Pass { seat: other })
     }
 
-    /// A pass with the numbers of both, which has seen the longer list. That list begins with what each had seen, and has
-    /// no other entries of its numbers.
+    /// A pass with the numbers of both, which has seen the longer list. That list begins with what each had seen, and
+    /// has no other entries of its numbers.
     pub fn join(&self, first: Pass<T>, second: Pass<T>) -> Pass<T>
         requires { IsPassOf self.now first × IsPassOf self.now second }
         ensures pass { IsPassOf self.now result }

@@ -71,8 +71,8 @@ impl<T: Keeps> Turnstile<T> {
         self.table.shared.fetch_add::<Went>(seat, SERVING, 1);
     }
 
-    /// Waits for its turn, first come, first served, and has the value. The value stands for a list that begins with all
-    /// that the pass had seen, and has no other entries of the pass's numbers.
+    /// Waits for its turn, first come, first served, and has the value. The value stands for a list that begins with
+    /// all that the pass had seen, and has no other entries of the pass's numbers.
     pub fn enter<R: Wait>(&self, rt: &R, pass: Pass<T>) -> Turn<T>
         requires { IsPassOf self.now pass }
         ensures turn { IsTurnOf self.now result }
@@ -92,8 +92,8 @@ impl<T: Keeps> Turnstile<T> {
         }
     }
 
-    /// Ends a turn. `about` tells which entries the turn added: the value stands for the list that was entered with these
-    /// behind it, and each bears a number that the pass holds.
+    /// Ends a turn. `about` tells which entries the turn added: the value stands for the list that was entered with
+    /// these behind it, and each bears a number that the pass holds.
     pub fn leave<Q: Tells<T::Entry>>(&self, turn: Turn<T>, about: &Q) -> Pass<T>
         requires turn { IsTurnOf self.now turn }
         requires stands { T.stands turn.value (entered turn ++ Q.entries about.now) }

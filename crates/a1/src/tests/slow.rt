@@ -38,7 +38,8 @@ impl Source for SlowSource {
     }
 }
 
-// Takes one byte a write. The write of the number `failing`, from 1, fails, and that of the number `idle` takes nothing.
+// Takes one byte a write. The write of the number `failing`, from 1, fails, and that of the number `idle` takes
+// nothing.
 #[derive(Drop)]
 struct SlowSink {
     taken: Vec<u8>,
