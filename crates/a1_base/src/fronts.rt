@@ -1,7 +1,7 @@
 //! Numbers and parts at the front of some bytes, the highest byte of a number first.
-ghost use Rattle.std.specs.Prelude.{◌≡◌, ◌++◌, OnOk, OnErr, option_map};
+ghost use Rattle.std.specs.Prelude.{◌≡◌, ◌<◌, ◌^◌, ◌++◌, OnOk, OnErr, option_map};
 ghost use Rattle.std.specs.Int.{w32, w64, to_be_bytes};
-ghost use Rattle.a1_base.specs.Fronts.{byte, part, number, number_at, sized};
+ghost use Rattle.a1_base.specs.Fronts.{byte, part, number, number_at, sized, Exact};
 
 use crate::{Bin, Memory};
 
@@ -118,3 +118,10 @@ pub fn front_block(bytes: &[u8]) -> Option<(&[u8], &[u8])>
     let (size, rest) = front_u32(bytes)?;
     front_part(rest, size as usize)
 }
+
+/// A number that is put is read again, whatever stands behind it, and what is read as a number is put so.
+#[tactic(auto, using(crate::proofs::Exact::number32_exact, crate::proofs::Exact::number64_exact))]
+pub fn numbers_read_back()
+    ensures u32 { Exact (number w32) (to_be_bytes w32) (λ n. n < 2 ^ 32) }
+    ensures u64 { Exact (number w64) (to_be_bytes w64) (λ n. n < 2 ^ 64) }
+{}

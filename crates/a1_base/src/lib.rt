@@ -11,11 +11,13 @@ mod in_memory;
 mod limits;
 mod outside;
 mod place;
+#[cfg(test)]
+mod tests;
 
 pub use bin::{Bin, Txt, text_of};
 pub use fronts::{
-    ReadFault, front_block, front_byte, front_part, front_u32, front_u64, push_u32, push_u64,
-    u32_at, u64_at,
+    ReadFault, front_block, front_byte, front_part, front_u32, front_u64, numbers_read_back,
+    push_u32, push_u64, u32_at, u64_at,
 };
 pub use gate::{Gate, NoGate, Point};
 pub use in_memory::{MemSink, MemSource};

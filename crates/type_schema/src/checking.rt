@@ -119,9 +119,7 @@ fn made(alloc: Global, attrs: &[Attr], members: &[(Txt, Given)]) -> Result<Recor
 {
     let mut values = Vec::new(alloc);
     for attr in attrs {
-        values
-            .push(value_at(alloc, attr, members)?)
-            ?;
+        values.push(value_at(alloc, attr, members)?)?;
     }
     Ok(Record { values })
 }
@@ -149,17 +147,13 @@ fn made_over(
     ensures { Checks result (behind key.now (made_over attrs.now old.now members.now)) }
 {
     let mut values = Vec::new(alloc);
-    values
-        .push(copy_value(alloc, key)?)
-        ?;
+    values.push(copy_value(alloc, key)?)?;
     let mut rest = old;
     for attr in attrs {
         let Some((value, after)) = first(rest) else {
             unreachable!()
         };
-        values
-            .push(value_over(alloc, attr, value, members)?)
-            ?;
+        values.push(value_over(alloc, attr, value, members)?)?;
         rest = after;
     }
     Ok(Record { values })
