@@ -67,7 +67,8 @@ inside outer read bytes = option_and_then (λ b. option_map (λ a. (a, b.1)) (re
 
 -- what is read is spelled so, and what is spelled so is read, whatever stands behind it
 pub record Exact {A : Type 0} (front : Front A) (spelling : A → List ℕ) (IsA : A → Type 0) : Type 0 where
-  pub takes : (bytes : List ℕ) (a : A × List ℕ) → IsBytes bytes → front bytes ≡ Some a → IsA a.0 × (bytes ≡ spelling a.0 ++ a.1)
+  pub takes : (bytes : List ℕ) (a : A × List ℕ) →
+      IsBytes bytes → front bytes ≡ Some a → IsA a.0 × (bytes ≡ spelling a.0 ++ a.1)
   pub again : (a : A) (rest : List ℕ) → IsA a → front (spelling a ++ rest) ≡ Some (a, rest)
 
 -- the same of a reading of all of some bytes

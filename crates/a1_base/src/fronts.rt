@@ -110,8 +110,8 @@ pub fn front_u64(bytes: &[u8]) -> Option<(u64, &[u8])>
     Some((number, rest))
 }
 
-/// The bytes behind a length of 4 bytes, as many as it says, and the bytes behind them: none exactly where the length or
-/// some of the bytes are missing.
+/// The bytes behind a length of 4 bytes, as many as it says, and the bytes behind them: none exactly where the length
+/// or some of the bytes are missing.
 pub fn front_block(bytes: &[u8]) -> Option<(&[u8], &[u8])>
     ensures { sized (number w32) bytes.now ≡ option_map (λ x. (x.0.now, x.1.now)) result }
 {
