@@ -125,7 +125,7 @@ vertex_exact : Exact vertex_front vertex_tail (λ v. Numbered v.graph × (Named 
 unfolding vertex_front
 vertex_exact = made_exact (both graph_number_front (both name_front key_front)) (λ x. to_be_bytes w64 x.0 ++ (name_bytes x.1.0 ++ key_bytes x.1.1)) (λ x. Numbered x.0 × (Named x.1.0 × IsKey x.1.1))
     (both_exact graph_number_front (to_be_bytes w64) Numbered graph_number_exact (both name_front key_front) (λ x. name_bytes x.0 ++ key_bytes x.1) (λ x. Named x.0 × IsKey x.1)
-        (behind_name key_front key_bytes IsKey key_exact))
+    (behind_name key_front key_bytes IsKey key_exact))
     (λ x. record { graph = x.0; kind = x.1.0; key = x.1.1 }) (λ v. (v.graph, (v.kind, v.key))) (λ x h. refl) (λ v h. refl)
 
 abbrev edge_tail : EdgeName → List ℕ
@@ -184,13 +184,13 @@ key_takes (suc (suc zero) ∷ bytes) k fits e =
     whole_takes graph_whole graph_text GraphNamed graph_whole_exact key.Graph row_key IsStoreKey (2 ∷ []) (λ g h. (h, refl)) bytes k (bytes_behind (2 ∷ []) bytes fits) e
 key_takes (suc (suc (suc zero)) ∷ bytes) k fits e =
     whole_takes (whole type_front) type_tail (λ t. Numbered t.graph × Named t.name) (whole_exact type_front type_tail (λ t. Numbered t.graph × Named t.name) type_exact)
-        key.TypeKey row_key IsStoreKey (3 ∷ []) (λ t h. (h, refl)) bytes k (bytes_behind (3 ∷ []) bytes fits) e
+    key.TypeKey row_key IsStoreKey (3 ∷ []) (λ t h. (h, refl)) bytes k (bytes_behind (3 ∷ []) bytes fits) e
 key_takes (suc (suc (suc (suc zero))) ∷ bytes) k fits e =
     whole_takes (whole vertex_front) vertex_tail (λ v. Numbered v.graph × (Named v.kind × IsKey v.key)) (whole_exact vertex_front vertex_tail (λ v. Numbered v.graph × (Named v.kind × IsKey v.key)) vertex_exact)
-        key.Vertex row_key IsStoreKey (4 ∷ []) (λ v h. (h, refl)) bytes k (bytes_behind (4 ∷ []) bytes fits) e
+    key.Vertex row_key IsStoreKey (4 ∷ []) (λ v h. (h, refl)) bytes k (bytes_behind (4 ∷ []) bytes fits) e
 key_takes (suc (suc (suc (suc (suc zero)))) ∷ bytes) k fits e =
     whole_takes (whole edge_front) edge_tail EdgeNamed (whole_exact edge_front edge_tail EdgeNamed edge_exact)
-        key.Edge row_key IsStoreKey (5 ∷ []) (λ x h. ((h.0, h.1.0, (h.1.1.0, h.1.1.1.0), h.1.1.1.1), refl)) bytes k (bytes_behind (5 ∷ []) bytes fits) e
+    key.Edge row_key IsStoreKey (5 ∷ []) (λ x h. ((h.0, h.1.0, (h.1.1.0, h.1.1.1.0), h.1.1.1.1), refl)) bytes k (bytes_behind (5 ∷ []) bytes fits) e
 key_takes (suc (suc (suc (suc (suc (suc n))))) ∷ bytes) k fits e = absurd (none-some k (sym (no_tag (suc (suc (suc (suc (suc (suc n)))))) bytes (omega arith)) ∙ e))
 
 key_again : (k : StoreKey) → IsStoreKey k → key_whole (row_key k) ≡ Some k

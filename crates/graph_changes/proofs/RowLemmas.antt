@@ -76,7 +76,7 @@ parts_front = both (tested is_type_tag byte) schema_front
 parts_exact : Exact (made (λ x. schema_of x.0 x.1) parts_front) (λ t. parts_bytes (type_parts t)) (λ t. ArePartsOf (type_parts t))
 parts_exact = made_exact parts_front parts_bytes ArePartsOf
     (both_exact (tested is_type_tag byte) (λ n. n ∷ []) (λ n. (n < 256) × (is_type_tag n ≡ true)) (tested_exact byte (λ n. n ∷ []) (λ n. n < 256) byte_exact is_type_tag)
-        schema_front schema_bytes (λ schema. IsTrue (is_list schema)) schema_exact)
+    schema_front schema_bytes (λ schema. IsTrue (is_list schema)) schema_exact)
     (λ x. schema_of x.0 x.1) type_parts (λ x h. parts_back x.0 x.1 h.0.1) (λ t h. parts_there t)
 
 -- the same bytes, said otherwise
@@ -90,8 +90,8 @@ type_schema_exact : Exact type_schema_front type_bytes (λ t. IsTrue (is_type t)
 unfolding type_schema_front
 type_schema_exact = respelled (tested is_type (made (λ x. schema_of x.0 x.1) parts_front)) (λ t. parts_bytes (type_parts t)) type_bytes (λ t. IsTrue (is_type t)) spelled
     (same_exact (tested is_type (made (λ x. schema_of x.0 x.1) parts_front)) (λ t. parts_bytes (type_parts t)) (λ t. ArePartsOf (type_parts t) × (is_type t ≡ true)) (λ t. IsTrue (is_type t))
-        (tested_exact (made (λ x. schema_of x.0 x.1) parts_front) (λ t. parts_bytes (type_parts t)) (λ t. ArePartsOf (type_parts t)) parts_exact is_type)
-        (λ t h. h.1) (λ t h. (parts_fit t h, h)))
+    (tested_exact (made (λ x. schema_of x.0 x.1) parts_front) (λ t. parts_bytes (type_parts t)) (λ t. ArePartsOf (type_parts t)) parts_exact is_type)
+    (λ t h. h.1) (λ t h. (parts_fit t h, h)))
 
 counter_whole : ExactWhole (whole counter_front) (to_be_bytes w64) (λ n. IsTrue (is_counter n))
 counter_whole = whole_exact counter_front (to_be_bytes w64) (λ n. IsTrue (is_counter n)) counter_exact
@@ -243,3 +243,6 @@ change_again c rest h = changed_exact.again c rest (((h.0, row_key_short c.key h
 
 pub change_exact : Exact change_front change_bytes HasForm
 change_exact = record { takes = change_takes; again = change_again }
+
+-- what the law of the rows cites
+pub ruleset rows = (key_exact_whole, value_exact_whole, change_exact)

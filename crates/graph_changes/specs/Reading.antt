@@ -44,11 +44,19 @@ unfoldable pub type_front : Front TypeName
 type_front bytes = made (λ x. record { graph = x.0; name = x.1 }) (both graph_number_front name_front) bytes
 
 unfoldable pub vertex_front : Front VertexName
-vertex_front bytes = made (λ x. record { graph = x.0; kind = x.1.0; key = x.1.1 }) (both graph_number_front (both name_front key_front)) bytes
+vertex_front bytes =
+    made (λ x. record { graph = x.0; kind = x.1.0; key = x.1.1 }) (both graph_number_front (both name_front key_front)) bytes
 
 unfoldable pub edge_front : Front EdgeName
 edge_front bytes =
-    made (λ x. record { graph = x.0; kind = x.1.0; from_kind = x.1.1.0; from = x.1.1.1.0; to_kind = x.1.1.1.1.0; to = x.1.1.1.1.1 })
+    made (λ x. record {
+      graph = x.0;
+      kind = x.1.0;
+      from_kind = x.1.1.0;
+      from = x.1.1.1.0;
+      to_kind = x.1.1.1.1.0;
+      to = x.1.1.1.1.1;
+    })
     (both graph_number_front (both name_front (both name_front (both key_front (both name_front key_front))))) bytes
 
 -- the key behind its first byte
@@ -78,7 +86,8 @@ abbrev pub is_type_tag : ℕ → Bool
 is_type_tag tag = nat_le 1 tag && nat_le tag 2
 
 unfoldable pub type_schema_front : Front TypeSchema
-type_schema_front bytes = tested is_type (made (λ x. schema_of x.0 x.1) (both (tested is_type_tag byte) schema_front)) bytes
+type_schema_front bytes =
+    tested is_type (made (λ x. schema_of x.0 x.1) (both (tested is_type_tag byte) schema_front)) bytes
 
 -- the value of this key that the bytes are
 unfoldable pub value_whole : StoreKey → List ℕ → Option StoreValue

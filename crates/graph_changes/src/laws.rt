@@ -6,7 +6,7 @@ ghost use Rattle.type_schema.specs.Formed.{IsStoreKey, FitsKey, HasForm};
 ghost use Rattle.graph_changes.specs.Reading.{key_whole, value_whole, change_front};
 
 /// What is read as a key, as a value of a key, or of a front as a change is spelled so, and what is spelled so is read.
-#[tactic(auto, using(crate::proofs::KeyLemmas::key_exact_whole, crate::proofs::RowLemmas::value_exact_whole, crate::proofs::RowLemmas::change_exact))]
+#[tactic(auto, using(crate::proofs::RowLemmas::rows))]
 pub fn rows_read_back()
     ensures key { ExactWhole key_whole row_key IsStoreKey }
     ensures value { (key : StoreKey) → ExactWhole (value_whole key) row_value (FitsKey key) }

@@ -110,7 +110,8 @@ pub fn read(alloc: Global, bytes: &[u8]) -> Result<Changes, ChangeFault>
     // What is read is spelled so.
     ensures found { IfOk result (λ changes. AreChanges changes × (bytes.now ≡ changes_bytes changes)) }
     // What is spelled so is read, unless memory is wanting.
-    ensures only { (changes : List Change) → AreChanges changes → bytes.now ≡ changes_bytes changes → Gives result changes }
+    ensures only { (changes : List Change) →
+        AreChanges changes → bytes.now ≡ changes_bytes changes → Gives result changes }
     // Where the first item that is none begins.
     ensures bad { IfErr result (IsChangeFault bytes.now) }
 {

@@ -16,7 +16,7 @@ use type_schema::{
 
 // ---- writing
 
-#[tactic(auto, using(type_schema::proofs::SchemaLemmas::list_of_vertices, type_schema::proofs::SchemaLemmas::list_of_edges))]
+#[tactic(auto, using(type_schema::proofs::SchemaLemmas::lists))]
 fn push_type_schema(out: &mut Bin, schema: &TypeSchema) -> Result<(), Memory>
     requires { IsTrue (is_type schema.now) }
     ensures { OnOk result (out.new ≡ out.old ++ type_bytes schema.now) }

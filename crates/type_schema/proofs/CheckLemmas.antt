@@ -258,3 +258,8 @@ rest_of schema old a key rest behind_key was is_schema is_old =
     let p = and_parts (are_of schema old) (is_none (too_long schema old) && nat_le (length (record_bytes old)) RECORD_LIMIT) was in
     let q = subst (λ z. are_of z (key ∷ behind_key) ≡ true) is_schema (subst (λ z. are_of schema z ≡ true) is_old p.0) in
     (and_parts (is_of a.kind key) (are_of rest behind_key) q).1
+
+-- what the two loops over attributes cite
+pub ruleset making = (made_more, made_fails, made_all)
+
+pub ruleset making_over = (over_more, over_fails, over_all, of_more, no_value)

@@ -119,3 +119,6 @@ record_exact = same_exact (tested is_short (counted stored_front)) record_bytes 
     (tested_exact (counted stored_front) record_bytes (λ values. AllByRecursion IsStored values × IsByte (length values)) (counted_exact stored_front value_bytes IsStored value_exact) is_short)
     (λ values h. record { few = h.0.1; each = h.0.0; short = leb-true (length (record_bytes values)) RECORD_LIMIT h.1 })
     (λ values h. ((h.each, h.few), le-leb (length (record_bytes values)) RECORD_LIMIT h.short))
+
+-- what the law of the layouts cites
+pub ruleset layouts = (name_exact, schema_exact, record_exact)

@@ -80,3 +80,6 @@ list_of_vertices schema h = (and_parts (is_vertex_list schema) _ h).1
 pub list_of_edges : (schema : List Attr) → IsTrue (is_type (OfEdges schema)) → IsTrue (is_list schema)
 unfolding is_type
 list_of_edges schema h = (and_parts (is_edge_list schema) _ h).1
+
+-- what the writer of a type cites
+pub ruleset lists = (list_of_vertices, list_of_edges)

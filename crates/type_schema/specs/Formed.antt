@@ -65,7 +65,8 @@ IsStoreKey (key.Tenant t) = IsTrue (is_name t)
 IsStoreKey (key.Graph g) = IsTrue (is_name g.tenant) × IsTrue (is_name g.name)
 IsStoreKey (key.TypeKey t) = IsTrue (is_graph_number t.graph) × IsTrue (is_name t.name)
 IsStoreKey (key.Vertex v) = IsTrue (is_graph_number v.graph) × IsEnd v.kind v.key
-IsStoreKey (key.Edge e) = IsTrue (is_graph_number e.graph) × IsTrue (is_name e.kind) × IsEnd e.from_kind e.from × IsEnd e.to_kind e.to
+IsStoreKey (key.Edge e) =
+    IsTrue (is_graph_number e.graph) × IsTrue (is_name e.kind) × IsEnd e.from_kind e.from × IsEnd e.to_kind e.to
 
 -- the value has the form of its key
 abbrev pub FitsKey : StoreKey → StoreValue → Type 0

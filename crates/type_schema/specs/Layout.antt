@@ -56,7 +56,8 @@ row_key (key.Graph g) = 2 ∷ g.tenant ++ 47 ∷ g.name
 row_key (key.TypeKey t) = 3 ∷ to_be_bytes w64 t.graph ++ name_bytes t.name
 row_key (key.Vertex v) = 4 ∷ to_be_bytes w64 v.graph ++ (name_bytes v.kind ++ key_bytes v.key)
 row_key (key.Edge e) =
-    5 ∷ to_be_bytes w64 e.graph ++ (name_bytes e.kind ++ (name_bytes e.from_kind ++ (key_bytes e.from ++ (name_bytes e.to_kind ++ key_bytes e.to))))
+    5 ∷ to_be_bytes w64 e.graph ++ (name_bytes e.kind
+    ++ (name_bytes e.from_kind ++ (key_bytes e.from ++ (name_bytes e.to_kind ++ key_bytes e.to))))
 
 abbrev pub row_value : StoreValue → List ℕ
 row_value value.Nothing = []

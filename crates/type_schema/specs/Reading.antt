@@ -29,7 +29,8 @@ flag_front bytes = made (λ code. code == 1) (tested (λ code. nat_le code 1) by
 
 -- the attribute in front
 unfoldable pub attr_front : Front Attr
-attr_front bytes = made (λ x. record { name = x.0; kind = x.1.0; index = x.1.1 }) (both name_front (both kind_front flag_front)) bytes
+attr_front bytes =
+    made (λ x. record { name = x.0; kind = x.1.0; index = x.1.1 }) (both name_front (both kind_front flag_front)) bytes
 
 -- the schema in front
 unfoldable pub schema_front : Front Schema

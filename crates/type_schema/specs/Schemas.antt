@@ -84,7 +84,8 @@ too_long (a ∷ schema) (v ∷ values) = if nat_lt (most a) (value_size v) then 
 
 -- a record of this schema
 unfoldable pub fits : Schema → Record → Bool
-fits schema values = are_of schema values && (is_none (too_long schema values) && nat_le (length (record_bytes values)) RECORD_LIMIT)
+fits schema values =
+    are_of schema values && (is_none (too_long schema values) && nat_le (length (record_bytes values)) RECORD_LIMIT)
 
 -- ---- the record that a request's members make
 
@@ -123,7 +124,8 @@ behind v (Err fault) = Err fault
 abbrev pub made : Schema → Members → Result Record SchemaFault
 made [] members = Ok []
 made (a ∷ schema) members =
-    need (option_and_then (value_in a.kind) (member a.name members)) (fault.Kind a.name) (λ v. behind v (made schema members))
+    need (option_and_then (value_in a.kind) (member a.name members)) (fault.Kind a.name)
+    (λ v. behind v (made schema members))
 
 -- the old value, or what is given in its place
 abbrev pub value_over : Kind → Value → Option Given → Option Value
@@ -133,29 +135,32 @@ value_over kind old (Some given) = value_in kind given
 -- the old values, with those of the members in their place
 abbrev pub made_over : Schema → Record → Members → Result Record SchemaFault
 made_over (a ∷ schema) (v ∷ values) members =
-    need (value_over a.kind v (member a.name members)) (fault.Kind a.name) (λ w. behind w (made_over schema values members))
+    need (value_over a.kind v (member a.name members)) (fault.Kind a.name)
+    (λ w. behind w (made_over schema values members))
 made_over [] values members = Ok values
 made_over (a ∷ schema) [] members = Ok []
 
 -- the values, where none is too long and they are not too long together
 abbrev pub if_short : Schema → Record → Result Record SchemaFault
 if_short schema values =
-    unless_at (too_long schema values) fault.Long (unless (nat_lt RECORD_LIMIT (length (record_bytes values))) fault.RecordLong (Ok values))
+    unless_at (too_long schema values) fault.Long
+    (unless (nat_lt RECORD_LIMIT (length (record_bytes values))) fault.RecordLong (Ok values))
 
 -- the record of a put or a link, or the first fault
 unfoldable pub checked : Schema → Members → Result Record SchemaFault
 checked schema members =
-    unless_at (missing schema members) fault.Missing (unless_at (unknown schema members) fault.Unknown (passing (made schema members) (if_short schema)))
+    unless_at (missing schema members) fault.Missing
+    (unless_at (unknown schema members) fault.Unknown (passing (made schema members) (if_short schema)))
 
 -- the record of a set, or the first fault: the first attribute is the key, which stays and is none of those to be set
 unfoldable pub merged : Schema → Record → Members → Result Record SchemaFault
 merged (a ∷ schema) (key ∷ old) members =
-    unless_at (unknown schema members) fault.Unknown (passing (behind key (made_over schema old members)) (if_short (a ∷ schema)))
+    unless_at (unknown schema members) fault.Unknown
+    (passing (behind key (made_over schema old members)) (if_short (a ∷ schema)))
 merged [] old members = unless_at (unknown [] members) fault.Unknown (if_short [] old)
 merged (a ∷ schema) [] members = Err (fault.Missing a.name)
 
--- ---- what a reader answers
-
+-- the result is what is wanted, unless memory was wanting
 abbrev pub Checks : {X : Type 0} → Result X SchemaFault → Result X SchemaFault → Type 0
 Checks (Ok x) wanted = wanted ≡ Ok x
 Checks (Err fault.Memory) wanted = ⊤

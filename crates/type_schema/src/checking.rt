@@ -88,7 +88,8 @@ fn value_in(alloc: Global, attr: &Attr, given: &Given) -> Result<Value, SchemaFa
 // The value of an attribute that the members give.
 #[tactic(auto, unfolding(crate::specs::Schemas::need))]
 fn value_at(alloc: Global, attr: &Attr, members: &[(Txt, Given)]) -> Result<Value, SchemaFault>
-    ensures { Checks result (need (option_and_then (value_in attr.now.kind) (member attr.now.name members.now)) (fault.Kind attr.now.name) Ok) }
+    ensures { Checks result
+        (need (option_and_then (value_in attr.now.kind) (member attr.now.name members.now)) (fault.Kind attr.now.name) Ok) }
 {
     match member(members, &attr.name) {
         Some(given) => value_in(alloc, attr, given),
@@ -104,7 +105,8 @@ fn value_over(
     old: &Value,
     members: &[(Txt, Given)],
 ) -> Result<Value, SchemaFault>
-    ensures { Checks result (need (value_over attr.now.kind old.now (member attr.now.name members.now)) (fault.Kind attr.now.name) Ok) }
+    ensures { Checks result
+        (need (value_over attr.now.kind old.now (member attr.now.name members.now)) (fault.Kind attr.now.name) Ok) }
 {
     match member(members, &attr.name) {
         Some(given) => value_in(alloc, attr, given),
@@ -113,7 +115,7 @@ fn value_over(
 }
 
 // The members' values.
-#[tactic(auto, using(crate::proofs::CheckLemmas::made_more, crate::proofs::CheckLemmas::made_fails, crate::proofs::CheckLemmas::made_all))]
+#[tactic(auto, using(crate::proofs::CheckLemmas::making))]
 fn made(alloc: Global, attrs: &[Attr], members: &[(Txt, Given)]) -> Result<Record, SchemaFault>
     ensures { Checks result (made attrs.now members.now) }
 {
@@ -135,7 +137,7 @@ fn first<T>(list: &[T]) -> Option<(&T, &[T])>
 }
 
 // The key, and the old values with those of the members in their place.
-#[tactic(auto, using(crate::proofs::CheckLemmas::over_more, crate::proofs::CheckLemmas::over_fails, crate::proofs::CheckLemmas::over_all, crate::proofs::CheckLemmas::of_more, crate::proofs::CheckLemmas::no_value))]
+#[tactic(auto, using(crate::proofs::CheckLemmas::making_over))]
 fn made_over(
     alloc: Global,
     key: &Value,
@@ -271,7 +273,8 @@ fn merged_behind(
     members: &[(Txt, Given)],
 ) -> Result<Record, SchemaFault>
     requires { IsTrue (are_of settable.now old.now) }
-    ensures { Checks result (unless_at (unknown settable.now members.now) fault.Unknown (passing (behind key.now (made_over settable.now old.now members.now)) (if_short attrs.now))) }
+    ensures { Checks result (unless_at (unknown settable.now members.now) fault.Unknown
+        (passing (behind key.now (made_over settable.now old.now members.now)) (if_short attrs.now))) }
 {
     if let Some(name) = unknown(settable, members) {
         return Err(SchemaFault::Unknown(copy(alloc, name)?));

@@ -7,7 +7,7 @@ ghost use Rattle.type_schema.specs.Formed.{is_list, IsRecord};
 ghost use Rattle.type_schema.specs.Reading.{name_front, schema_front, record_front};
 
 /// What is read of a front as a name, a schema or a record is spelled so, and what is spelled so is read.
-#[tactic(auto, using(crate::proofs::LayoutLemmas::name_exact, crate::proofs::LayoutLemmas::schema_exact, crate::proofs::LayoutLemmas::record_exact))]
+#[tactic(auto, using(crate::proofs::LayoutLemmas::layouts))]
 pub fn layouts_read_back()
     ensures name { Exact name_front name_bytes (λ name. IsTrue (is_name name)) }
     ensures schema { Exact schema_front schema_bytes (λ schema. IsTrue (is_list schema)) }

@@ -8,7 +8,8 @@ use a1_value::Value;
 
 // The bytes that the encoding of a value takes, where they are at most the room.
 fn size_within(value: &Value, room: usize) -> Option<usize>
-    ensures { result ≡ (if nat_le (length (value_bytes value.now)) room then Some (length (value_bytes value.now)) else None) }
+    ensures { result ≡
+        (if nat_le (length (value_bytes value.now)) room then Some (length (value_bytes value.now)) else None) }
 {
     let (head, content) = match value {
         Value::Int(_) => (9, 0),
