@@ -1,6 +1,6 @@
 #!/bin/sh
-# How many nanoseconds one call takes that encodes a value, decodes one, spells its key or reads a request of 100 bytes, and
-# beside these serde_json's own reading of that request, each with the drop of what it makes: builds the program
+# How many nanoseconds one call takes that encodes a value, decodes one, spells its key or reads a request of 100 bytes,
+# and beside these serde_json's own reading of that request, each with the drop of what it makes: builds the program
 # examples/codecs.txt beside a copy of the crates that it names, and runs it five times. Given a git revision, it takes
 # a1_base and a1_json as they were there, and times the two readings alone. Needs rt on the path.
 # Usage: sh examples/codecs.sh [REVISION]
