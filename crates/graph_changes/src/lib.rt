@@ -8,6 +8,8 @@ mod fault;
 mod keys;
 mod laws;
 mod reading;
+#[cfg(test)]
+mod tests;
 mod values;
 mod writing;
 
