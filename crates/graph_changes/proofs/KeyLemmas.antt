@@ -1,13 +1,13 @@
 -- Store keys read back.
-use Rattle.std.proofs.Common.{◌≡◌, ℕ, zero, suc, ◌+◌, ◌<◌, ◌≤◌, ◌^◌, Bool, true, false, cond, List, [], ◌∷◌, ◌++◌, length, Option, Some, None, refl, sym, ap, subst, ◌∙◌, arith, nat_eq, nat_lt, nat_le}
-use Rattle.std.specs.Prelude.{◌&&◌, ◌||◌, IsTrue, ⊤, option_map, option_and_then}
+use Rattle.std.proofs.Common.{◌≡◌, ℕ, zero, suc, ◌<◌, ◌^◌, Bool, true, false, cond, List, [], ◌∷◌, ◌++◌, length, Option, Some, None, refl, sym, ap, subst, ◌∙◌, arith, nat_eq, nat_le}
+use Rattle.std.specs.Prelude.{◌&&◌, IsTrue, option_map}
 use Rattle.std.specs.List.{list_all}
-use Rattle.std.specs.Int.{w32, w64, to_be_bytes}
-use Rattle.std.proofs.lemmas.Bool.{false≢true, and_parts, and_from, or_left, leb-true, ltb-true, eqb-true, ne_eqb}
+use Rattle.std.specs.Int.{w64, to_be_bytes}
+use Rattle.std.proofs.lemmas.Bool.{false≢true, and_parts, and_from, or_left, ltb-true, eqb-true, ne_eqb}
 use Rattle.std.proofs.lemmas.List.{nil_from_length}
 use Rattle.std.proofs.lemmas.Option.{option_and_then_some, same_Some, cond_some, none-some}
 use Rattle.a1_base.specs.declared.limits.TheConstants.{GRAPH_NUMBER_LIMIT}
-use Rattle.a1_base.specs.Fronts.{IsBytes, Front, byte, number, both, made, tested, whole, Exact, ExactWhole}
+use Rattle.a1_base.specs.Fronts.{IsBytes, Front, number, both, tested, whole, Exact, ExactWhole}
 use Rattle.a1_base.proofs.Exact.{bytes_behind, mapped_some, number64_exact, tested_exact, made_exact, both_exact, whole_exact, same_exact}
 use Rattle.a1_value.specs.declared.value.Value.{Value}
 use Rattle.a1_value.specs.Encoding.{IsKey, key_bytes, key_front}

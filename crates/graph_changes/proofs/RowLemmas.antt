@@ -1,11 +1,11 @@
 -- Store values and changes read back.
-use Rattle.std.proofs.Common.{◌≡◌, ℕ, zero, suc, ◌+◌, ◌*◌, ◌<◌, ◌≤◌, ◌^◌, Bool, true, false, cond, List, [], ◌∷◌, ◌++◌, length, Option, Some, None, refl, sym, ap, subst, ◌∙◌, arith, append_assoc, nat_eq, nat_lt, nat_le}
-use Rattle.std.specs.Prelude.{◌&&◌, IsTrue, ⊤, IfSome, is_some, option_map, option_and_then}
+use Rattle.std.proofs.Common.{◌≡◌, ℕ, zero, suc, ◌<◌, ◌≤◌, ◌^◌, Bool, true, List, [], ◌∷◌, ◌++◌, length, Option, Some, None, refl, sym, ap, subst, ◌∙◌, arith, nat_eq, nat_le}
+use Rattle.std.specs.Prelude.{IsTrue, IfSome, is_some, option_map}
 use Rattle.std.specs.Int.{w32, w64, to_be_bytes}
 use Rattle.std.proofs.lemmas.Bool.{false≢true, and_parts, leb-true, eqb-true, ne_eqb}
 use Rattle.std.proofs.lemmas.List.{nil_from_length, length-append}
-use Rattle.std.proofs.lemmas.Option.{option_and_then_some, same_Some, cond_some, none-some}
-use Rattle.a1_base.specs.declared.limits.TheConstants.{GRAPH_NUMBER_LIMIT, KEY_LIMIT, NAME_LIMIT, RECORD_LIMIT}
+use Rattle.std.proofs.lemmas.Option.{same_Some, cond_some, none-some}
+use Rattle.a1_base.specs.declared.limits.TheConstants.{GRAPH_NUMBER_LIMIT}
 use Rattle.a1_base.specs.Fronts.{IsBytes, Front, byte, number, both, made, tested, sized, whole, inside, Exact, ExactWhole}
 use Rattle.a1_base.proofs.Exact.{bytes_front, bytes_behind, mapped_some, byte_exact, number32_exact, number64_exact, tested_exact, made_exact, both_exact, sized_exact, inside_exact, whole_exact, same_exact}
 use Rattle.a1_value.specs.declared.value.Value.{Value}
