@@ -1,0 +1,27 @@
+-- Addresses are the same exactly where they are equal.
+use Rattle.std.proofs.Common.{◌≡◌, ◌⊎◌, inl, inr, ℕ, Bool, true, false, refl, ap, ◌∙◌}
+use Rattle.std.specs.declared.cmp.Ordering.{Ordering}
+use Rattle.std.specs.declared.cmp.Ordering.TheVariants.{Less, Equal, Greater}
+use Rattle.std.specs.Ordering.{nat_cmp, is_eq, ordering_then}
+use Rattle.std.proofs.lemmas.Cmp.{nat_cmp_total, tied_itself}
+use Rattle.std.proofs.lemmas.Map.Lookups.{exact_pairs, exact_unsigned}
+use Rattle.a1_base.specs.declared.place.Addr.{Addr}
+use Rattle.object_view.specs.Agreement.{same_addr, addr_order}
+
+is_equal : (o : Ordering) → is_eq o ≡ true → o ≡ Equal
+is_equal Less h = absurd cc
+is_equal Equal h = refl
+is_equal Greater h = absurd cc
+
+pub same_is : (a b : Addr) → same_addr a b ≡ true → a ≡ b
+same_is a b h = ap (λ (p : ℕ × ℕ). record { region = p.0; offset = p.1 }) (exact_pairs nat_cmp nat_cmp exact_unsigned exact_unsigned (a.region, a.offset) (b.region, b.offset) (is_equal (addr_order a b) h))
+
+pub same_itself : (a : Addr) → same_addr a a ≡ true
+same_itself a = ap (λ (o : Ordering). is_eq (ordering_then o (nat_cmp a.offset a.offset))) (tied_itself nat_cmp_total a.region) ∙ ap is_eq (tied_itself nat_cmp_total a.offset)
+
+true_or : (b : Bool) → (b ≡ true) ⊎ (b ≡ false)
+true_or true = inl refl
+true_or false = inr refl
+
+pub same_or : (a b : Addr) → ((same_addr a b ≡ true) × (a ≡ b)) ⊎ (same_addr a b ≡ false)
+same_or a b = elim (true_or (same_addr a b)) [ inl t ↦ inl (t, same_is a b t) | inr f ↦ inr f ]

@@ -1,0 +1,11 @@
+//! Views of a heap of objects: the trait through which every structure reads and writes, and a plain heap in memory.
+//!
+//! Contracts see a view by its trace (what was read through it), its overlay (what was written through it), and by
+//! which heaps agree with both. The layer knows no trees, graphs or requests.
+#![tactic(auto)]
+
+mod mem_view;
+mod view;
+
+pub use mem_view::MemView;
+pub use view::{Object, View, ViewFault};
