@@ -1,9 +1,10 @@
 -- Addresses are the same exactly where they are equal.
-use Rattle.std.proofs.Common.{◌≡◌, ◌⊎◌, inl, inr, ℕ, Bool, true, false, refl, ap, ◌∙◌}
+use Rattle.std.proofs.Common.{◌≡◌, ◌⊎◌, inl, inr, ℕ, Bool, true, false, refl, ap}
 use Rattle.std.specs.declared.cmp.Ordering.{Ordering}
 use Rattle.std.specs.declared.cmp.Ordering.TheVariants.{Less, Equal, Greater}
-use Rattle.std.specs.Ordering.{nat_cmp, is_eq, ordering_then}
-use Rattle.std.proofs.lemmas.Cmp.{nat_cmp_total, tied_itself}
+use Rattle.std.specs.Ordering.{nat_cmp, is_eq}
+use Rattle.std.proofs.lemmas.Cmp.{nat_cmp_total, then_total, on_total}
+use Rattle.std.specs.Cmp.{IsTotalOrder}
 use Rattle.std.proofs.lemmas.Map.Lookups.{exact_pairs, exact_unsigned}
 use Rattle.a1_base.specs.declared.place.Addr.{Addr}
 use Rattle.object_view.specs.Agreement.{same_addr, addr_order}
@@ -16,8 +17,8 @@ is_equal Greater h = absurd cc
 pub same_is : (a b : Addr) → same_addr a b ≡ true → a ≡ b
 same_is a b h = ap (λ (p : ℕ × ℕ). record { region = p.0; offset = p.1 }) (exact_pairs nat_cmp nat_cmp exact_unsigned exact_unsigned (a.region, a.offset) (b.region, b.offset) (is_equal (addr_order a b) h))
 
-pub same_itself : (a : Addr) → same_addr a a ≡ true
-same_itself a = ap (λ (o : Ordering). is_eq (ordering_then o (nat_cmp a.offset a.offset))) (tied_itself nat_cmp_total a.region) ∙ ap is_eq (tied_itself nat_cmp_total a.offset)
+pub addr_total : IsTotalOrder addr_order
+addr_total = then_total (on_total (λ (a : Addr). a.region) nat_cmp_total) (on_total (λ (a : Addr). a.offset) nat_cmp_total)
 
 true_or : (b : Bool) → (b ≡ true) ⊎ (b ≡ false)
 true_or true = inl refl

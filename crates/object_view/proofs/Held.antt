@@ -6,7 +6,7 @@ use Rattle.a1_base.specs.declared.place.Addr.{Addr}
 use Rattle.object_view.specs.declared.mem_view.Slot.{Slot}
 use Rattle.object_view.specs.Agreement.{addr_order, same_addr, is_made}
 use Rattle.object_view.specs.Calls.{written_at}
-use Rattle.object_view.specs.Slots.{overlay_of, heap_in, write_of, place_at, IsTakenBelow}
+use Rattle.object_view.specs.Slots.{overlay_of, heap_in, write_of, bytes_written, place_at, IsStored, IsTakenBelow}
 use Rattle.object_view.proofs.Addresses.{same_or}
 
 write_cond : (b : Bool) (s : Slot) (o : Option Slot) → write_of (cond b (Some s) o) ≡ cond b (Some (record { made = s.made; bytes = s.bytes })) (write_of o)
@@ -40,3 +40,16 @@ module _ {E : Type 0} (old new : BTreeMap Addr Slot) (heap : BTreeMap Addr (List
       below q low (none_before (same_addr at a) slot (get addr_order old a) (sym (up.0 a) ∙ v.0), v.1)
   taken_put (Err x) up same nodes node number below q low v =
       below q low (ap (λ es. lookup (is_at (addr_order (place_at nodes node q))) es) (sym same) ∙ v.0, v.1)
+
+  pub written_put : (r : Result (Option Slot) E) → OnOk r (Updates addr_order old new at (Some slot)) → OnErr r (IsUnchanged old new)
+      → (nodes : ℕ) → ((b : List ℕ) → slot.bytes ≡ Some b → IsStored nodes at b)
+      → ((a : Addr) (b : List ℕ) → bytes_written (overlay_of old a) ≡ Some b → IsStored nodes a b)
+      → (a : Addr) (b : List ℕ) → bytes_written (overlay_of new a) ≡ Some b → IsStored nodes a b
+  written_put (Ok x) up same nodes here all a b e =
+      let now = λ (o : Option Slot). bytes_written (write_of o) in
+      let cased = λ (t : Bool). now (cond t (Some slot) (get addr_order old a)) in
+      elim (same_or at a) [
+        | inl s ↦ subst (λ (x : Addr). IsStored nodes x b) s.1 (here b (ap cased (sym s.0) ∙ (ap now (sym (up.0 a)) ∙ e)))
+        | inr f ↦ all a b (ap cased (sym f) ∙ (ap now (sym (up.0 a)) ∙ e))
+      ]
+  written_put (Err x) up same nodes here all a b e = all a b (ap (λ es. bytes_written (write_of (lookup (is_at (addr_order a)) es))) (sym same) ∙ e)

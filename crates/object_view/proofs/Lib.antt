@@ -1,3 +1,6 @@
 pub mod Addresses
+pub mod Agreed
 pub mod Held
+pub mod Listed
 pub mod Places
+pub mod Settled

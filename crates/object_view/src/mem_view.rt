@@ -1,14 +1,17 @@
 //! A view over a plain heap in memory.
-ghost use Rattle.std.specs.Prelude.{◌≡◌, ◌<◌, ◌≤◌, ℕ, true, None, get_or, MatchResult};
+ghost use Rattle.std.specs.Prelude.{◌≡◌, ◌<◌, ◌≤◌, ℕ, List, true, Some, None, get_or, cond, MatchResult, IfOk, OnOk};
+ghost use Rattle.std.specs.BTreeMap.{get, IsFromIterResult};
+ghost use Rattle.std.specs.Map.{keys_of};
+ghost use Rattle.std.specs.List.Sorted.{IsStrictlySortedBy};
 ghost use Rattle.a1_base.specs.declared.place.Addr.{Addr};
-ghost use Rattle.a1_base.specs.declared.limits.TheConstants.{NODE_LIMIT};
+ghost use Rattle.a1_base.specs.declared.limits.TheConstants.{NODE_LIMIT, OPENING_STAMP};
 ghost use Rattle.object_view.specs.declared.mem_view.TheConstants.{PLACE_COUNT};
-ghost use Rattle.object_view.specs.Agreement.{is_made, object_of};
-ghost use Rattle.object_view.specs.Slots.{overlay_of, heap_in, place_at, IsTakenBelow};
+ghost use Rattle.object_view.specs.Agreement.{addr_order, same_addr, stood, is_made, object_of};
+ghost use Rattle.object_view.specs.Slots.{overlay_of, heap_in, bytes_written, place_at, IsStored, IsTakenBelow};
 
 use crate::view::{Object, View, ViewFault};
 use a1_base::{Addr, Bin, Memory, OPENING_STAMP, REGION_LIMIT, REGION_WIDTH};
-use std::alloc::Global;
+use std::alloc::{AllocError, Global};
 use std::collections::BTreeMap;
 use std::sync::Wait;
 
@@ -34,6 +37,9 @@ pub struct MemView {
     // On each node the places below this number are taken.
     next: [u64; 16],
     ghost nodes_fit: { (1 ≤ nodes) × (nodes ≤ NODE_LIMIT) },
+    ghost stored: { (a : Addr) (bytes : List ℕ) → get addr_order heap a ≡ Some bytes → IsStored nodes a bytes },
+    ghost written: { (a : Addr) (bytes : List ℕ) → bytes_written (overlay_of over a) ≡ Some bytes
+        → IsStored nodes a bytes },
     ghost taken: { (node : ℕ) → IsTakenBelow over heap nodes node (get_or next node 0) },
     ghost room: { (a : Addr) → is_made (overlay_of over a) ≡ true → heap_in heap a ≡ None },
 }
@@ -45,6 +51,51 @@ fn copied(alloc: Global, bytes: &Bin) -> Result<Bin, ViewFault>
         Ok(copy) => Ok(copy),
         Err(_) => Err(ViewFault::Memory),
     }
+}
+
+// Puts bytes at an address, or takes those there away.
+fn settle(heap: &mut BTreeMap<Addr, Bin>, at: Addr, bytes: Option<Bin>) -> Result<(), Memory>
+    ensures { OnOk result ((a : Addr) → get addr_order heap.new a ≡ cond (same_addr at a) bytes (get addr_order heap.old a)) }
+{
+    match bytes {
+        None => {
+            heap.remove(&at);
+        }
+        Some(bytes) => {
+            if heap.insert(at, bytes).is_err() {
+                return Err(Memory);
+            }
+        }
+    }
+    Ok(())
+}
+
+// The heap with the overlay upon it.
+fn settled(
+    mut heap: BTreeMap<Addr, Bin>,
+    mut over: BTreeMap<Addr, Slot>,
+) -> Result<BTreeMap<Addr, Bin>, Memory>
+    ensures { IfOk result (λ all. (a : Addr) → get addr_order all a ≡ stood (heap_in heap) (overlay_of over) a) }
+{
+    'each: while let Some((at, slot)) = over.pop_first() {
+        settle(&mut heap, at, slot.bytes)?;
+    }
+    Ok(heap)
+}
+
+// The objects by their addresses.
+fn mapped(alloc: Global, objects: Vec<(Addr, Bin)>) -> Result<BTreeMap<Addr, Bin>, AllocError>
+    ensures { IfOk result (IsFromIterResult addr_order objects.items) }
+{
+    objects.into_iter().collect(alloc)
+}
+
+// The objects by rising address.
+fn listed(alloc: Global, heap: BTreeMap<Addr, Bin>) -> Result<Vec<(Addr, Bin)>, AllocError>
+    ensures items { IfOk result (λ objects. objects.items ≡ heap.entries) }
+    ensures order { IsStrictlySortedBy addr_order (keys_of heap.entries) }
+{
+    heap.into_iter().collect(alloc)
 }
 
 // An own write, seen as an object.
@@ -150,8 +201,80 @@ impl View for MemView {
 }
 
 impl MemView {
+    ghost use Rattle.std.specs.Prelude.{[], IsOkAnd};
+    ghost use Rattle.object_view.specs.Agreement.{Agrees};
+    ghost use Rattle.object_view.specs.Slots.{found_at, IsObjectList};
+    ghost use Rattle.object_view.specs.Held.{overlay_in, trace_of, heap_of};
+
+    /// A view of a heap without objects, of 1 to 16 nodes. It takes no memory, so that `Memory` never comes.
+    pub fn new(alloc: Global, nodes: u32) -> Result<MemView, Memory>
+        requires some { 1 ≤ nodes }
+        requires few { nodes ≤ NODE_LIMIT }
+        ensures heap { IsOkAnd result (λ view. heap_of view ≡ (λ a. None)) }
+        ensures overlay { IsOkAnd result (λ view. overlay_in view ≡ (λ a. None)) }
+        ensures trace { IsOkAnd result (λ view. trace_of view ≡ []) }
+        ensures nodes { IsOkAnd result (λ view. view.nodes ≡ nodes) }
+    {
+        Ok(MemView::over(alloc, BTreeMap::new(alloc), nodes))
+    }
+
+    /// A view of a heap of 1 to 16 nodes with these objects of 1 to 65,536 bytes, at distinct addresses: the region is
+    /// below 1,048,576 times `nodes`, the offset below 4,096. `Memory` comes for want of memory alone.
+    pub fn of(alloc: Global, heap: Vec<(Addr, Bin)>, nodes: u32) -> Result<MemView, Memory>
+        requires some { 1 ≤ nodes }
+        requires few { nodes ≤ NODE_LIMIT }
+        requires objects { IsObjectList nodes heap.items }
+        ensures heap { IfOk result (λ view. (a : Addr) → heap_of view a ≡ object_of OPENING_STAMP (found_at heap.items a)) }
+        ensures overlay { IfOk result (λ view. overlay_in view ≡ (λ a. None)) }
+        ensures trace { IfOk result (λ view. trace_of view ≡ []) }
+        ensures nodes { IfOk result (λ view. view.nodes ≡ nodes) }
+    {
+        Ok(MemView::over(alloc, mapped(alloc, heap)?, nodes))
+    }
+
+    // A view of these objects, with nothing read or written.
+    fn over(alloc: Global, heap: BTreeMap<Addr, Bin>, nodes: u32) -> MemView
+        requires some { 1 ≤ nodes }
+        requires few { nodes ≤ NODE_LIMIT }
+        requires stored { (a : Addr) (bytes : List ℕ) → get addr_order heap a ≡ Some bytes → IsStored nodes a bytes }
+        ensures heap { result.heap ≡ heap }
+        ensures overlay { overlay_in result ≡ (λ a. None) }
+        ensures trace { trace_of result ≡ [] }
+        ensures nodes { result.nodes ≡ nodes }
+    {
+        MemView {
+            heap,
+            over: BTreeMap::new(alloc),
+            reads: Vec::new(alloc),
+            nodes,
+            next: [0; 16],
+        }
+    }
+
+    /// The heap with the overlay upon it: its objects by rising address. `Memory` comes for want of memory alone, and
+    /// then the view is gone.
+    pub fn into_heap(self, alloc: Global) -> Result<Vec<(Addr, Bin)>, Memory>
+        ensures heap { IfOk result (λ objects. (a : Addr) →
+            found_at objects.items a ≡ stood (heap_of self) (overlay_in self) a) }
+        ensures order { IfOk result (λ objects. IsStrictlySortedBy addr_order (keys_of objects.items)) }
+        ensures objects { IfOk result (λ objects. IsObjectList self.nodes objects.items) }
+    {
+        let MemView { heap, over, .. } = self;
+        let objects = listed(alloc, settled(heap, over)?)?;
+        Ok(objects)
+    }
+
+    /// The heap under the view agrees with its trace and its overlay, at all times.
+    #[tactic(auto, using(crate::proofs::Agreed::own_agrees))]
+    pub fn own_heap_agrees(&self)
+        ensures { Agrees (heap_of self.now) (trace_of self.now) (overlay_in self.now) }
+    {
+    }
+}
+
+impl MemView {
     ghost use Rattle.std.specs.Prelude.{IfSome, IfNone, IfErr, OnOk, OnErr, Some};
-    ghost use Rattle.object_view.specs.Calls.{written_at, OnlyMemory};
+    ghost use Rattle.object_view.specs.Calls.{written_at, StandsIn, IsObject, OnlyMemory};
     ghost use Rattle.object_view.specs.Slots.{IsVacant};
     ghost use Rattle.object_view.specs.Held.{overlay_in, trace_of, heap_of, IsFull};
 
@@ -196,7 +319,10 @@ impl MemView {
     }
 
     // Writes at an address; who made the object stays.
+    #[tactic(auto, using(crate::proofs::Agreed::stands_stored))]
     fn change(&mut self, at: Addr, bytes: Option<Bin>) -> Result<(), ViewFault>
+        requires stands { StandsIn (trace_of self.old) (overlay_in self.old) at }
+        requires size { (b : List ℕ) → bytes ≡ Some b → IsObject b }
         ensures ok { OnOk result
             (overlay_in self.new ≡ written_at at (is_made (overlay_in self.old at)) bytes (overlay_in self.old)) }
         ensures err { OnErr result (overlay_in self.new ≡ overlay_in self.old) }
@@ -215,7 +341,8 @@ impl MemView {
     // Writes at an address.
     #[tactic(auto, using(crate::proofs::Held::overlay_put))]
     fn put(&mut self, at: Addr, made: bool, bytes: Option<Bin>) -> Result<(), ViewFault>
-        requires { made ≡ true → heap_of self.old at ≡ None }
+        requires made { made ≡ true → heap_of self.old at ≡ None }
+        requires stored { (b : List ℕ) → bytes ≡ Some b → IsStored self.old.nodes at b }
         ensures ok { OnOk result (overlay_in self.new ≡ written_at at made bytes (overlay_in self.old)) }
         ensures err { OnErr result (overlay_in self.new ≡ overlay_in self.old) }
         ensures fault { IfErr result OnlyMemory }
