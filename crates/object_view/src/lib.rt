@@ -5,7 +5,9 @@
 #![tactic(auto)]
 
 mod mem_view;
+mod parts;
 mod view;
 
 pub use mem_view::MemView;
+pub use parts::{PartFault, look};
 pub use view::{Object, View, ViewFault};

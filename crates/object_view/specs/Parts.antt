@@ -1,0 +1,30 @@
+-- What the structures over a view say of their calls.
+use Rattle.std.specs.Prelude.{◌≡◌, ◌⊎◌, ℕ, Bool, true, cond, List, Option, Some, None, Result, Ok, Err, ⊤}
+use Rattle.std.specs.List.{Contains}
+use Rattle.a1_base.specs.declared.place.Addr.{Addr}
+use Rattle.object_view.specs.declared.parts.PartFault.{PartFault}
+use Rattle.object_view.specs.declared.parts.PartFault.TheVariants as fault
+use Rattle.object_view.specs.Agreement.{Seen, Heap, Overlay, State, Agrees, same_addr}
+use Rattle.object_view.specs.Calls.{IsSteady}
+
+-- from a view to a later one: what agrees with the later agrees with the earlier
+pub record Onward {S K : Type 0} (trace : S → List Seen) (overlay : S → Overlay) (reach : S → ℕ → Bool) (number : S → ℕ) (keep : S → K) (old new : S) : Type 0 where
+  pub agreed : (h : Heap) → Agrees h (trace new) (overlay new) → Agrees h (trace old) (overlay old)
+  pub steady : IsSteady reach number keep old new
+
+-- with other bytes, or none, at an address
+abbrev pub with_bytes : Addr → Option (List ℕ) → State → State
+with_bytes a bytes s b = cond (same_addr a b) bytes (s b)
+
+-- from a state to another: a part on the places ps came to stand on qs, and no other place changed
+pub record Moves (s t : State) (ps qs : List Addr) : Type 0 where
+  pub others : (b : Addr) → (Contains ps b → ⊥) → (Contains qs b → ⊥) → t b ≡ s b
+  pub made : (b : Addr) → Contains qs b → Contains ps b ⊎ (s b ≡ None)
+  pub freed : (b : Addr) → Contains ps b → Contains qs b ⊎ (t b ≡ None)
+
+-- a look: the bytes there, or Torn where the view does not serve the address or nothing stands there
+abbrev pub LookTells : Addr → Bool → Option (List ℕ) → Result (List ℕ) PartFault → Type 0
+LookTells a served here (Ok bytes) = (served ≡ true) × (here ≡ Some bytes)
+LookTells a served here (Err fault.Memory) = ⊤
+LookTells a served here (Err (fault.Torn at)) = (at ≡ a) × (served ≡ true → here ≡ None)
+LookTells a served here (Err _) = ⊥

@@ -1,0 +1,62 @@
+//! How a structure looks at the objects of a view, and changes them.
+ghost use Rattle.std.specs.Prelude.{◌≡◌, ◌⊎◌, ◌<◌, ◌%◌, true, Some, None, IfOk, IfErr, OnOk, OnErr};
+ghost use Rattle.a1_base.specs.declared.place.Addr.{Addr};
+ghost use Rattle.object_view.specs.Agreement.{Heap, Agrees, stood};
+ghost use Rattle.object_view.specs.Calls.{StandsIn, IsPlace, IsObject};
+ghost use Rattle.object_view.specs.Parts.{Onward, LookTells, with_bytes};
+ghost use Rattle.object_view.specs.declared.parts.PartFault.TheVariants as fault;
+
+use crate::view::{View, ViewFault};
+use a1_base::{Addr, Bin};
+use std::alloc::Global;
+use std::sync::Wait;
+
+/// Why a structure gave no answer.
+#[derive(Clone, Copy, Debug, PartialEq, Eq)]
+pub enum PartFault {
+    /// An allocation was refused.
+    Memory,
+    /// All places of the node's 1,048,576 regions are taken.
+    Spent { node: u32 },
+    /// The address lies where the view can't reach, or what stands there is no part of the structure.
+    Torn { at: Addr },
+    /// A tree would need a 17th level.
+    Tall,
+}
+
+impl From<ViewFault> for PartFault {
+    ghost use Rattle.object_view.specs.Faults.{part_fault};
+
+    ghost from_gives = { λ fault part. part ≡ part_fault fault };
+
+    fn from(fault: ViewFault) -> Self {
+        match fault {
+            ViewFault::Memory => PartFault::Memory,
+            ViewFault::Spent { node } => PartFault::Spent { node },
+        }
+    }
+}
+
+/// The bytes of the object at an address. `Torn` comes where the view does not serve the address, or has no object
+/// there; `Memory` for want of memory alone.
+#[tactic(auto, using(crate::proofs::Looking::read_rules))]
+pub fn look<V: View, R: Wait>(
+    rt: &R,
+    alloc: Global,
+    view: &mut V,
+    at: Addr,
+) -> Result<Bin, PartFault>
+    ensures tells { (h : Heap) → Agrees h (V.trace view.new) (V.overlay view.new) → LookTells at
+        (V.reaches view.old (at.region % V.count view.old)) (stood h (V.overlay view.old) at) result }
+    ensures overlay { V.overlay view.new ≡ V.overlay view.old }
+    ensures onward { Onward V.trace V.overlay V.reaches V.count V.kept view.old view.new }
+{
+    if !view.serves(at) {
+        return Err(PartFault::Torn { at });
+    }
+    match view.read(rt, alloc, at) {
+        Ok(Some(object)) => Ok(object.bytes),
+        Ok(None) => Err(PartFault::Torn { at }),
+        Err(_) => Err(PartFault::Memory),
+    }
+}
