@@ -3,7 +3,7 @@ use Rattle.std.proofs.Common.{◌≡◌, ◌⊎◌, inl, inr, ℕ, Bool, true, f
 use Rattle.std.specs.declared.cmp.Ordering.{Ordering}
 use Rattle.std.specs.declared.cmp.Ordering.TheVariants.{Less, Equal, Greater}
 use Rattle.std.specs.Ordering.{nat_cmp, is_eq}
-use Rattle.std.proofs.lemmas.Cmp.{nat_cmp_total, then_total, on_total}
+use Rattle.std.proofs.lemmas.Cmp.{nat_cmp_total, then_total, on_total, eq_by_cmp_equiv}
 use Rattle.std.specs.Cmp.{IsTotalOrder}
 use Rattle.std.proofs.lemmas.Map.Lookups.{exact_pairs, exact_unsigned}
 use Rattle.a1_base.specs.declared.place.Addr.{Addr}
@@ -26,3 +26,6 @@ true_or false = inr refl
 
 pub same_or : (a b : Addr) → ((same_addr a b ≡ true) × (a ≡ b)) ⊎ (same_addr a b ≡ false)
 same_or a b = elim (true_or (same_addr a b)) [ inl t ↦ inl (t, same_is a b t) | inr f ↦ inr f ]
+
+pub same_itself : (a : Addr) → same_addr a a ≡ true
+same_itself a = (eq_by_cmp_equiv addr_total).refl a

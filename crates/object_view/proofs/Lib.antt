@@ -5,3 +5,4 @@ pub mod Listed
 pub mod Looking
 pub mod Places
 pub mod Settled
+pub mod Writing

@@ -9,5 +9,5 @@ mod parts;
 mod view;
 
 pub use mem_view::MemView;
-pub use parts::{PartFault, look};
+pub use parts::{PartFault, look, make, store, take};
 pub use view::{Object, View, ViewFault};

@@ -60,3 +60,74 @@ pub fn look<V: View, R: Wait>(
         Err(_) => Err(PartFault::Memory),
     }
 }
+
+/// Puts bytes in the place of an object, as `View::write` does. `Memory` comes for want of memory alone; after it the
+/// overlay is as before.
+#[tactic(auto, using(crate::proofs::Writing::write_rules))]
+pub fn store<V: View>(
+    alloc: Global,
+    view: &mut V,
+    at: Addr,
+    bytes: &[u8],
+) -> Result<(), PartFault>
+    requires served { V.reaches view.old (at.region % V.count view.old) ≡ true }
+    requires stands { StandsIn (V.trace view.old) (V.overlay view.old) at }
+    requires size { IsObject bytes.now }
+    ensures ok { OnOk result ((h : Heap) →
+        stood h (V.overlay view.new) ≡ with_bytes at (Some bytes.now) (stood h (V.overlay view.old))) }
+    ensures err { OnErr result (V.overlay view.new ≡ V.overlay view.old) }
+    ensures fault { IfErr result (λ f. f ≡ fault.Memory) }
+    ensures onward { Onward V.trace V.overlay V.reaches V.count V.kept view.old view.new }
+{
+    match view.write(alloc, at, bytes) {
+        Ok(()) => Ok(()),
+        Err(_) => Err(PartFault::Memory),
+    }
+}
+
+/// Makes an object on a node, as `View::alloc` does, and answers its address. `Spent` comes where all places of the
+/// node are taken, `Memory` for want of memory alone; after either the overlay is as before.
+#[tactic(auto, using(crate::proofs::Writing::make_rules))]
+pub fn make<V: View, R: Wait>(
+    rt: &R,
+    alloc: Global,
+    view: &mut V,
+    node: u32,
+    bytes: &[u8],
+) -> Result<Addr, PartFault>
+    requires node { node < V.count view.old }
+    requires served { V.reaches view.old node ≡ true }
+    requires size { IsObject bytes.now }
+    ensures place { IfOk result (λ at. IsPlace (V.count view.old) node at) }
+    ensures fresh { IfOk result (λ at. (h : Heap) → Agrees h (V.trace view.new) (V.overlay view.new)
+        → stood h (V.overlay view.old) at ≡ None) }
+    ensures ok { IfOk result (λ at. (h : Heap) →
+        stood h (V.overlay view.new) ≡ with_bytes at (Some bytes.now) (stood h (V.overlay view.old))) }
+    ensures err { OnErr result (V.overlay view.new ≡ V.overlay view.old) }
+    ensures fault { IfErr result (λ f. (f ≡ fault.Memory) ⊎ (f ≡ fault.Spent node)) }
+    ensures onward { Onward V.trace V.overlay V.reaches V.count V.kept view.old view.new }
+{
+    match view.alloc(rt, alloc, node, bytes) {
+        Ok(at) => Ok(at),
+        Err(ViewFault::Memory) => Err(PartFault::Memory),
+        Err(ViewFault::Spent { node }) => Err(PartFault::Spent { node }),
+    }
+}
+
+/// Takes an object away, as `View::free` does. `Memory` comes for want of memory alone; after it the overlay is as
+/// before.
+#[tactic(auto, using(crate::proofs::Writing::write_rules))]
+pub fn take<V: View>(alloc: Global, view: &mut V, at: Addr) -> Result<(), PartFault>
+    requires served { V.reaches view.old (at.region % V.count view.old) ≡ true }
+    requires stands { StandsIn (V.trace view.old) (V.overlay view.old) at }
+    ensures ok { OnOk result ((h : Heap) →
+        stood h (V.overlay view.new) ≡ with_bytes at None (stood h (V.overlay view.old))) }
+    ensures err { OnErr result (V.overlay view.new ≡ V.overlay view.old) }
+    ensures fault { IfErr result (λ f. f ≡ fault.Memory) }
+    ensures onward { Onward V.trace V.overlay V.reaches V.count V.kept view.old view.new }
+{
+    match view.free(alloc, at) {
+        Ok(()) => Ok(()),
+        Err(_) => Err(PartFault::Memory),
+    }
+}
