@@ -3,6 +3,7 @@ pub mod Agreed
 pub mod Held
 pub mod Listed
 pub mod Looking
+pub mod Moving
 pub mod Places
 pub mod Settled
 pub mod Writing

@@ -1,10 +1,11 @@
 -- What a read tells of every heap that agrees with the later view.
-use Rattle.std.proofs.Common.{◌≡◌, ℕ, List, [], ◌∷◌, ◌++◌, Option, Some, None, ap, sym, subst}
+use Rattle.std.proofs.Common.{◌≡◌, ℕ, List, [], ◌∷◌, ◌++◌, Option, Some, None, refl, ap, sym, subst, ◌∙◌}
+use Rattle.std.specs.Prelude.{IsSome}
 use Rattle.std.specs.List.{AllByRecursion}
 use Rattle.a1_base.specs.declared.place.Addr.{Addr}
 use Rattle.object_view.specs.declared.view.Object.{Object}
 use Rattle.object_view.specs.Agreement.{Seen, Write, Heap, Overlay, Agrees, IsSeenIn, bytes_of, covered, stood}
-use Rattle.object_view.specs.Calls.{ReadTells, noted}
+use Rattle.object_view.specs.Calls.{ReadTells, StandsIn, noted}
 
 front : (h : Heap) (xs ys : List Seen) → AllByRecursion (IsSeenIn h) (xs ++ ys) → AllByRecursion (IsSeenIn h) xs
 front h [] ys p = tt
@@ -38,4 +39,10 @@ read_agrees h old new before after a found same told agrees =
 pub same_agrees : (h : Heap) (old new : List Seen) (before after : Overlay) → new ≡ old → after ≡ before → Agrees h new after → Agrees h old before
 same_agrees h old new before after e f agrees = rw (← e, ← f) agrees
 
-pub ruleset read_rules = (read_found, read_agrees, same_agrees)
+pub read_stands : (old new : List Seen) (before after : Overlay) (a : Addr) (o : Object) → after ≡ before
+    → ReadTells (before a) a old new (Some o) → StandsIn new after a
+read_stands old new before after a o same told h agrees =
+    let there : Some o.bytes ≡ stood h before a = read_found h old new before after a (Some o) same told agrees in
+    subst IsSome (there ∙ ap (λ (over : Overlay). stood h over a) (sym same)) refl
+
+pub ruleset read_rules = (read_found, read_stands, read_agrees, same_agrees)

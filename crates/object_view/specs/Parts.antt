@@ -1,6 +1,6 @@
 -- What the structures over a view say of their calls.
 use Rattle.std.specs.Prelude.{◌≡◌, ◌⊎◌, ℕ, Bool, true, cond, List, Option, Some, None, Result, Ok, Err, ⊤}
-use Rattle.std.specs.List.{Contains}
+use Rattle.a1_base.specs.Lists.{IsAmong}
 use Rattle.a1_base.specs.declared.place.Addr.{Addr}
 use Rattle.object_view.specs.declared.parts.PartFault.{PartFault}
 use Rattle.object_view.specs.declared.parts.PartFault.TheVariants as fault
@@ -18,9 +18,9 @@ with_bytes a bytes s b = cond (same_addr a b) bytes (s b)
 
 -- from a state to another: a part on the places ps came to stand on qs, and no other place changed
 pub record Moves (s t : State) (ps qs : List Addr) : Type 0 where
-  pub others : (b : Addr) → (Contains ps b → ⊥) → (Contains qs b → ⊥) → t b ≡ s b
-  pub made : (b : Addr) → Contains qs b → Contains ps b ⊎ (s b ≡ None)
-  pub freed : (b : Addr) → Contains ps b → Contains qs b ⊎ (t b ≡ None)
+  pub others : (b : Addr) → (IsAmong b ps → ⊥) → (IsAmong b qs → ⊥) → t b ≡ s b
+  pub made : (b : Addr) → IsAmong b qs → IsAmong b ps ⊎ (s b ≡ None)
+  pub freed : (b : Addr) → IsAmong b ps → IsAmong b qs ⊎ (t b ≡ None)
 
 -- a look: the bytes there, or Torn where the view does not serve the address or nothing stands there
 abbrev pub LookTells : Addr → Bool → Option (List ℕ) → Result (List ℕ) PartFault → Type 0

@@ -6,6 +6,8 @@
 
 mod mem_view;
 mod parts;
+#[cfg(test)]
+mod tests;
 mod view;
 
 pub use mem_view::MemView;

@@ -48,6 +48,8 @@ pub fn look<V: View, R: Wait>(
 ) -> Result<Bin, PartFault>
     ensures tells { (h : Heap) → Agrees h (V.trace view.new) (V.overlay view.new) → LookTells at
         (V.reaches view.old (at.region % V.count view.old)) (stood h (V.overlay view.old) at) result }
+    ensures stands { OnOk result (StandsIn (V.trace view.new) (V.overlay view.new) at) }
+    ensures served { OnOk result (V.reaches view.new (at.region % V.count view.new) ≡ true) }
     ensures overlay { V.overlay view.new ≡ V.overlay view.old }
     ensures onward { Onward V.trace V.overlay V.reaches V.count V.kept view.old view.new }
 {
