@@ -24,5 +24,5 @@ pub listed : (v : MemView) (all : BTreeMap Addr (List ℕ)) (objects : List (Add
     → IsObjectList v.nodes objects
 listed v all objects same sorted is = subst (IsObjectList v.nodes) (sym same) (record {
   distinct = IsDistinct-from_sorted addr_order (keys_of all.entries) sorted;
-  stored = λ a bytes e. stood_stored v a bytes (sym (is a) ∙ e)
+  stored = λ a bytes e. stood_stored v a bytes (sym (is a) ∙ e);
 })

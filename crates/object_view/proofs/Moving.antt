@@ -1,9 +1,8 @@
 -- What moves follows what moved before, and moves within a larger part.
-use Rattle.std.proofs.Common.{◌≡◌, ◌⊎◌, inl, inr, List, [], ◌∷◌, ◌++◌, ℕ, Option, Some, None, sym, ◌∙◌, Bool, true, false, ap}
+use Rattle.std.proofs.Common.{◌≡◌, ◌⊎◌, inl, inr, List, [], ◌∷◌, ◌++◌, ℕ, sym, ◌∙◌, Bool, true, false, ap}
 use Rattle.a1_base.specs.declared.place.Addr.{Addr}
 use Rattle.a1_base.specs.Lists.{IsAmong}
 use Rattle.object_view.specs.Agreement.{Seen, Overlay, State, same_addr}
-use Rattle.object_view.specs.Calls.{IsSteady}
 use Rattle.object_view.specs.Parts.{Moves, Onward}
 use Rattle.object_view.proofs.Addresses.{same_or, same_itself}
 
@@ -54,7 +53,7 @@ moves_then s t u ps qs rs m k = record {
       | inl j ↦ k.freed b j
       | inr n ↦ elim (among_or b rs) [ inl j ↦ inl j | inr off ↦ inr (k.others b n off ∙ gone) ]
     ]
-  ]
+  ];
 }
 
 -- beside places of the same part that stay
@@ -62,7 +61,7 @@ pub moves_beside : (s t : State) (xs ps qs : List Addr) → Moves s t ps qs → 
 moves_beside s t xs ps qs m = record {
   others = λ b out off. m.others b (λ i. out (behind b xs ps i)) (λ i. off (behind b xs qs i));
   made = λ b i. elim (in_either b xs qs i) [ inl j ↦ inl (in_front b xs ps j) | inr j ↦ elim (m.made b j) [ inl k ↦ inl (behind b xs ps k) | inr z ↦ inr z ] ];
-  freed = λ b i. elim (in_either b xs ps i) [ inl j ↦ inl (in_front b xs qs j) | inr j ↦ elim (m.freed b j) [ inl k ↦ inl (behind b xs qs k) | inr z ↦ inr z ] ]
+  freed = λ b i. elim (in_either b xs ps i) [ inl j ↦ inl (in_front b xs qs j) | inr j ↦ elim (m.freed b j) [ inl k ↦ inl (behind b xs qs k) | inr z ↦ inr z ] ];
 }
 
 -- what agrees with a later view agrees with all before it
@@ -70,5 +69,5 @@ pub onward_then : {S K : Type 0} (trace : S → List Seen) (overlay : S → Over
     → Onward trace overlay reach number keep s t → Onward trace overlay reach number keep t u → Onward trace overlay reach number keep s u
 onward_then trace overlay reach number keep s t u m k = record {
   agreed = λ h agrees. m.agreed h (k.agreed h agrees);
-  steady = record { reaches = k.steady.reaches ∙ m.steady.reaches; count = k.steady.count ∙ m.steady.count; kept = k.steady.kept ∙ m.steady.kept }
+  steady = record { reaches = k.steady.reaches ∙ m.steady.reaches; count = k.steady.count ∙ m.steady.count; kept = k.steady.kept ∙ m.steady.kept };
 }

@@ -16,7 +16,7 @@ place_of n node number low below =
     record {
       home = add-mul-mod_self_left node n (number / 4096) ∙ mod-eq_of_lt low;
       region = omega (arith, m);
-      offset = omega arith
+      offset = omega arith;
     }
 
 pub number_of : (a : Addr) (n node : ℕ) → 1 ≤ n → IsPlace n node a → (number : ℕ) × (number < PLACE_COUNT) × (a ≡ place_at n node number)
@@ -26,9 +26,11 @@ number_of a n node some p =
     let m : (a.region / n * 4096 + a.offset) % 4096 ≡ a.offset = mod-mul-add (a.region / n) 4096 a.offset p.offset in
     let e : n * (a.region / n) + a.region % n ≡ a.region = div-add-mod a.region n in
     let s : node + n * (a.region / n) ≡ a.region = add_comm node (n * (a.region / n)) ∙ ap (λ (x : ℕ). n * (a.region / n) + x) (sym p.home) ∙ e in
-    let t : node + n * ((a.region / n * 4096 + a.offset) / 4096) ≡ a.region = ap (λ (x : ℕ). node + n * x) d ∙ s in
-    (a.region / n * 4096 + a.offset, omega arith,
-     sym (ap (λ (x : ℕ). record { region = x; offset = (a.region / n * 4096 + a.offset) % 4096 }) t ∙ ap (λ (x : ℕ). record { region = a.region; offset = x }) m))
+    let t : node + n * ((a.region / n * 4096 + a.offset) / 4096) ≡ a.region = ap (λ (x : ℕ). node + n * x) d ∙ s in (
+      a.region / n * 4096 + a.offset,
+      omega arith,
+      sym (ap (λ (x : ℕ). record { region = x; offset = (a.region / n * 4096 + a.offset) % 4096 }) t ∙ ap (λ (x : ℕ). record { region = a.region; offset = x }) m),
+    )
 
 -- a node with a vacant place is not full
 pub not_full : (v : MemView) (node number : ℕ) → node < v.nodes → number < PLACE_COUNT → IsVacant v.over v.heap (place_at v.nodes node number) → IsFull v node → ⊥

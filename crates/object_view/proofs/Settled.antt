@@ -20,7 +20,7 @@ pub settled : (heap later : BTreeMap Addr (List ℕ)) (over rest : BTreeMap Addr
     → (a : Addr) → stood (heap_in later) (overlay_of rest) a ≡ stood (heap_in heap) (overlay_of over) a
 settled heap later over rest at slot up was is a =
     let step : standing (get addr_order rest a) (get addr_order later a) ≡ standing (cond (same_addr at a) None (get addr_order over a)) (cond (same_addr at a) slot.bytes (get addr_order heap a))
-        = ap (λ (s : Option Slot). standing s (get addr_order later a)) (up.0 a) ∙ ap (standing (cond (same_addr at a) None (get addr_order over a))) (is a) in
+    = ap (λ (s : Option Slot). standing s (get addr_order later a)) (up.0 a) ∙ ap (standing (cond (same_addr at a) None (get addr_order over a))) (is a) in
     let cased = λ (t : Bool). standing (cond t None (get addr_order over a)) (cond t slot.bytes (get addr_order heap a)) in
     elim (same_or at a) [
       | inl s ↦

@@ -150,7 +150,12 @@ impl View for MemView {
         true
     }
 
-    fn read<R: Wait>(&mut self, _rt: &R, alloc: Global, at: Addr) -> Result<Option<Object>, ViewFault> {
+    fn read<R: Wait>(
+        &mut self,
+        _rt: &R,
+        alloc: Global,
+        at: Addr,
+    ) -> Result<Option<Object>, ViewFault> {
         match self.over.get(&at) {
             Some(slot) => own_object(alloc, &slot.bytes),
             None => {
@@ -268,8 +273,7 @@ impl MemView {
     #[tactic(auto, using(crate::proofs::Agreed::own_agrees))]
     pub fn own_heap_agrees(&self)
         ensures { Agrees (heap_of self.now) (trace_of self.now) (overlay_in self.now) }
-    {
-    }
+    {}
 }
 
 impl MemView {

@@ -66,12 +66,7 @@ pub fn look<V: View, R: Wait>(
 /// Puts bytes in the place of an object, as `View::write` does. `Memory` comes for want of memory alone; after it the
 /// overlay is as before.
 #[tactic(auto, using(crate::proofs::Writing::write_rules))]
-pub fn store<V: View>(
-    alloc: Global,
-    view: &mut V,
-    at: Addr,
-    bytes: &[u8],
-) -> Result<(), PartFault>
+pub fn store<V: View>(alloc: Global, view: &mut V, at: Addr, bytes: &[u8]) -> Result<(), PartFault>
     requires served { V.reaches view.old (at.region % V.count view.old) ≡ true }
     requires stands { StandsIn (V.trace view.old) (V.overlay view.old) at }
     requires size { IsObject bytes.now }

@@ -15,7 +15,13 @@ fn at(region: u32, offset: u32) -> Addr
     Addr { region, offset }
 }
 
-fn write<R: Wait>(rt: &R, alloc: Global, view: &mut MemView, at: Addr, bytes: &[u8]) -> Result<(), PartFault>
+fn write<R: Wait>(
+    rt: &R,
+    alloc: Global,
+    view: &mut MemView,
+    at: Addr,
+    bytes: &[u8],
+) -> Result<(), PartFault>
     requires { IsObject bytes.now }
     ensures { view.new.nodes ≡ view.old.nodes }
 {
@@ -31,7 +37,13 @@ fn free<R: Wait>(rt: &R, alloc: Global, view: &mut MemView, at: Addr) -> Result<
 }
 
 // Whether these bytes stand there.
-fn has<R: Wait>(rt: &R, alloc: Global, view: &mut MemView, at: Addr, bytes: &[u8]) -> Result<bool, PartFault>
+fn has<R: Wait>(
+    rt: &R,
+    alloc: Global,
+    view: &mut MemView,
+    at: Addr,
+    bytes: &[u8],
+) -> Result<bool, PartFault>
     ensures { view.new.nodes ≡ view.old.nodes }
 {
     let found = look(rt, alloc, view, at)?;
@@ -39,7 +51,12 @@ fn has<R: Wait>(rt: &R, alloc: Global, view: &mut MemView, at: Addr, bytes: &[u8
 }
 
 // The stamp of the object there.
-fn stamp<R: Wait>(rt: &R, alloc: Global, view: &mut MemView, at: Addr) -> Result<Option<u64>, ViewFault>
+fn stamp<R: Wait>(
+    rt: &R,
+    alloc: Global,
+    view: &mut MemView,
+    at: Addr,
+) -> Result<Option<u64>, ViewFault>
     ensures { view.new.nodes ≡ view.old.nodes }
 {
     match view.read(rt, alloc, at)? {
@@ -64,7 +81,11 @@ fn makes_writes_and_frees(rt: HostRuntime) -> Result<(), Fail> {
     assert_eq!(rt; stamp(&rt, alloc, &mut view, at(1, 0)), Ok(None));
     let torn = Err(PartFault::Torn { at: at(1, 0) });
     assert_eq!(rt; free(&rt, alloc, &mut view, at(1, 0)), torn);
-    assert_eq!(rt; make(&rt, alloc, &mut view, 1, b"ij"), Ok(at(1, 2)), "a freed place counts as taken");
+    assert_eq!(rt;
+        make(&rt, alloc, &mut view, 1, b"ij"),
+        Ok(at(1, 2)),
+        "a freed place counts as taken"
+    );
     Ok(())
 }
 

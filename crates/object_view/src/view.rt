@@ -73,7 +73,12 @@ pub trait View {
     /// The object at an address that the view serves, if one is there. An own write comes first, with the stamp 0, and
     /// is not noted; any other answer is noted in the trace. It may wait. The one fault is `Memory`, for want of memory
     /// alone; after it nothing was noted.
-    fn read<R: Wait>(&mut self, rt: &R, alloc: Global, at: Addr) -> Result<Option<Object>, ViewFault>
+    fn read<R: Wait>(
+        &mut self,
+        rt: &R,
+        alloc: Global,
+        at: Addr,
+    ) -> Result<Option<Object>, ViewFault>
         requires served { reaches self.old (at.region % count self.old) ≡ true }
         ensures tells { IfOk result (λ found.
             ReadTells (overlay self.old at) at (trace self.old) (trace self.new) found) }
