@@ -15,10 +15,13 @@ is_equal Equal h = refl
 is_equal Greater h = absurd cc
 
 pub same_is : (a b : Addr) → same_addr a b ≡ true → a ≡ b
-same_is a b h = ap (λ (p : ℕ × ℕ). record { region = p.0; offset = p.1 }) (exact_pairs nat_cmp nat_cmp exact_unsigned exact_unsigned (a.region, a.offset) (b.region, b.offset) (is_equal (addr_order a b) h))
+same_is a b h = ap (λ (p : ℕ × ℕ). record { region = p.0; offset = p.1 })
+    (exact_pairs nat_cmp nat_cmp exact_unsigned exact_unsigned (a.region, a.offset) (b.region, b.offset) (is_equal
+    (addr_order a b) h))
 
 pub addr_total : IsTotalOrder addr_order
-addr_total = then_total (on_total (λ (a : Addr). a.region) nat_cmp_total) (on_total (λ (a : Addr). a.offset) nat_cmp_total)
+addr_total = then_total (on_total (λ (a : Addr). a.region) nat_cmp_total) (on_total (λ
+    (a : Addr). a.offset) nat_cmp_total)
 
 true_or : (b : Bool) → (b ≡ true) ⊎ (b ≡ false)
 true_or true = inl refl

@@ -27,19 +27,23 @@ bytes_back stamp None = refl
 bytes_back stamp (Some b) = refl
 
 stored_there : (P : List ℕ → Type 0) (w : Option Write) (o : Option (List ℕ)) → ((b : List ℕ) → o ≡ Some b → P b)
-    → ((b : List ℕ) → bytes_written w ≡ Some b → P b) → (b : List ℕ) → bytes_of (covered w (object_of 1 o)) ≡ Some b → P b
+    → ((b : List ℕ) → bytes_written w ≡ Some b → P b) → (b : List ℕ)
+    → bytes_of (covered w (object_of 1 o)) ≡ Some b → P b
 stored_there P None o below above b e = below b (sym (bytes_back 1 o) ∙ e)
 stored_there P (Some w) o below above b e = above b (sym (bytes_back 0 w.bytes) ∙ e)
 
 -- what stands in the view has a place and the size of an object
-pub stood_stored : (v : MemView) (a : Addr) (b : List ℕ) → stood (heap_of v) (overlay_in v) a ≡ Some b → IsStored v.nodes a b
-stood_stored v a = stored_there (IsStored v.nodes a) (overlay_in v a) (get addr_order v.heap a) (v.stored a) (v.written a)
+pub stood_stored : (v : MemView) (a : Addr) (b : List ℕ) → stood (heap_of v) (overlay_in v) a ≡ Some b
+    → IsStored v.nodes a b
+stood_stored v a = stored_there (IsStored v.nodes a) (overlay_in v a) (get addr_order v.heap a) (v.stored a)
+    (v.written a)
 
 some_is : (o : Option (List ℕ)) → IsSome o → (b : List ℕ) × (o ≡ Some b)
 some_is None h = absurd cc
 some_is (Some b) h = (b, refl)
 
-pub stands_stored : (v : MemView) (a : Addr) (b : List ℕ) → StandsIn (trace_of v) (overlay_in v) a → IsObject b → IsStored v.nodes a b
+pub stands_stored : (v : MemView) (a : Addr) (b : List ℕ) → StandsIn (trace_of v) (overlay_in v) a → IsObject b
+    → IsStored v.nodes a b
 stands_stored v a b stands object =
     let there = some_is (stood (heap_of v) (overlay_in v) a) (stands (heap_of v) (own_agrees v)) in
     let here : IsStored v.nodes a there.0 = stood_stored v a there.0 there.1 in

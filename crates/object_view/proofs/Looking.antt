@@ -15,28 +15,34 @@ back : (h : Heap) (xs ys : List Seen) → AllByRecursion (IsSeenIn h) (xs ++ ys)
 back h [] ys p = p
 back h (x ∷ xs) ys p = back h xs ys p.1
 
-noted_there : (h : Heap) (a : Addr) (stamp : ℕ) (found : Option Object) → AllByRecursion (IsSeenIn h) (noted a stamp found ∷ []) → found ≡ h a
+noted_there : (h : Heap) (a : Addr) (stamp : ℕ) (found : Option Object)
+    → AllByRecursion (IsSeenIn h) (noted a stamp found ∷ []) → found ≡ h a
 noted_there h a stamp None p = sym p.0
 noted_there h a stamp (Some o) p = sym p.0
 
-found_in : (h : Heap) (w : Option Write) (a : Addr) (old new : List Seen) (found : Option Object) → ReadTells w a old new found
+found_in : (h : Heap) (w : Option Write) (a : Addr) (old new : List Seen) (found : Option Object)
+    → ReadTells w a old new found
     → AllByRecursion (IsSeenIn h) new → (found ≡ covered w (h a)) × AllByRecursion (IsSeenIn h) old
 found_in h (Some w) a old new found told p = (told.1, subst (AllByRecursion (IsSeenIn h)) told.0 p)
 found_in h None a old new found (stamp, e) p =
     let q : AllByRecursion (IsSeenIn h) (old ++ noted a stamp found ∷ []) = subst (AllByRecursion (IsSeenIn h)) e p in
     (noted_there h a stamp found (back h old _ q), front h old _ q)
 
-pub read_found : (h : Heap) (old new : List Seen) (before after : Overlay) (a : Addr) (found : Option Object) → after ≡ before
+pub read_found : (h : Heap) (old new : List Seen) (before after : Overlay) (a : Addr) (found : Option Object)
+    → after ≡ before
     → ReadTells (before a) a old new found → Agrees h new after → bytes_of found ≡ stood h before a
-read_found h old new before after a found same told agrees = ap bytes_of (found_in h (before a) a old new found told agrees.seen).0
+read_found h old new before after a found same told agrees = ap bytes_of (found_in h
+    (before a) a old new found told agrees.seen).0
 
-pub read_agrees : (h : Heap) (old new : List Seen) (before after : Overlay) (a : Addr) (found : Option Object) → after ≡ before
+pub read_agrees : (h : Heap) (old new : List Seen) (before after : Overlay) (a : Addr) (found : Option Object)
+    → after ≡ before
     → ReadTells (before a) a old new found → Agrees h new after → Agrees h old before
 read_agrees h old new before after a found same told agrees =
     let later : Agrees h new before = subst (λ (o : Overlay). Agrees h new o) same agrees in
     record { seen = (found_in h (before a) a old new found told later.seen).1; room = later.room }
 
-pub same_agrees : (h : Heap) (old new : List Seen) (before after : Overlay) → new ≡ old → after ≡ before → Agrees h new after → Agrees h old before
+pub same_agrees : (h : Heap) (old new : List Seen) (before after : Overlay) → new ≡ old → after ≡ before
+    → Agrees h new after → Agrees h old before
 same_agrees h old new before after e f agrees = rw (← e, ← f) agrees
 
 pub read_stands : (old new : List Seen) (before after : Overlay) (a : Addr) (o : Object) → after ≡ before

@@ -13,7 +13,11 @@ among_or : (b : Addr) (xs : List Addr) → IsAmong b xs ⊎ (IsAmong b xs → �
 among_or b [] = inr (λ i. i)
 among_or b (x ∷ xs) = elim (same_or x b) [
   | inl s ↦ inl (inl s.1)
-  | inr f ↦ elim (among_or b xs) [ inl i ↦ inl (inr i) | inr n ↦ inr (λ i. elim i [ inl e ↦ away x b f e | inr j ↦ n j ]) ]
+  | inr f ↦ elim (among_or b xs) [
+    | inl i ↦ inl (inr i)
+    | inr n ↦ inr
+        (λ i. elim i [ inl e ↦ away x b f e | inr j ↦ n j ])
+  ]
 ]
 
 in_front : (b : Addr) (xs ys : List Addr) → IsAmong b xs → IsAmong b (xs ++ ys)
@@ -60,14 +64,29 @@ moves_then s t u ps qs rs m k = record {
 pub moves_beside : (s t : State) (xs ps qs : List Addr) → Moves s t ps qs → Moves s t (xs ++ ps) (xs ++ qs)
 moves_beside s t xs ps qs m = record {
   others = λ b out off. m.others b (λ i. out (behind b xs ps i)) (λ i. off (behind b xs qs i));
-  made = λ b i. elim (in_either b xs qs i) [ inl j ↦ inl (in_front b xs ps j) | inr j ↦ elim (m.made b j) [ inl k ↦ inl (behind b xs ps k) | inr z ↦ inr z ] ];
-  freed = λ b i. elim (in_either b xs ps i) [ inl j ↦ inl (in_front b xs qs j) | inr j ↦ elim (m.freed b j) [ inl k ↦ inl (behind b xs qs k) | inr z ↦ inr z ] ];
+  made = λ b i. elim (in_either b xs qs i) [
+    | inl j ↦ inl (in_front b xs ps j)
+    | inr j ↦ elim
+        (m.made b j) [ inl k ↦ inl (behind b xs ps k) | inr z ↦ inr z ]
+  ];
+  freed = λ b i. elim (in_either b xs ps i) [
+    | inl j ↦ inl (in_front b xs qs j)
+    | inr j ↦ elim
+        (m.freed b j) [ inl k ↦ inl (behind b xs qs k) | inr z ↦ inr z ]
+  ];
 }
 
 -- what agrees with a later view agrees with all before it
-pub onward_then : {S K : Type 0} (trace : S → List Seen) (overlay : S → Overlay) (reach : S → ℕ → Bool) (number : S → ℕ) (keep : S → K) (s t u : S)
-    → Onward trace overlay reach number keep s t → Onward trace overlay reach number keep t u → Onward trace overlay reach number keep s u
+pub onward_then : {S K : Type 0} (trace : S → List Seen) (overlay : S → Overlay) (reach : S → ℕ
+    → Bool) (number : S → ℕ) (keep : S → K) (s t u : S)
+    → Onward trace overlay reach number keep s t → Onward trace overlay reach number keep t u
+    → Onward trace overlay reach number keep s u
 onward_then trace overlay reach number keep s t u m k = record {
   agreed = λ h agrees. m.agreed h (k.agreed h agrees);
-  steady = record { reaches = k.steady.reaches ∙ m.steady.reaches; count = k.steady.count ∙ m.steady.count; kept = k.steady.kept ∙ m.steady.kept };
+  steady = record {
+    reaches = k.steady.reaches ∙ m.steady.reaches;
+    count = k.steady.count
+        ∙ m.steady.count;
+    kept = k.steady.kept ∙ m.steady.kept;
+  };
 }

@@ -19,19 +19,25 @@ place_of n node number low below =
       offset = omega arith;
     }
 
-pub number_of : (a : Addr) (n node : ℕ) → 1 ≤ n → IsPlace n node a → (number : ℕ) × (number < PLACE_COUNT) × (a ≡ place_at n node number)
+pub number_of : (a : Addr) (n node : ℕ) → 1 ≤ n → IsPlace n node a
+    → (number : ℕ) × (number < PLACE_COUNT) × (a ≡ place_at n node number)
 number_of a n node some p =
     let r : a.region / n < 1048576 = div_below a.region n 1048576 (omega arith) p.region in
-    let d : (a.region / n * 4096 + a.offset) / 4096 ≡ a.region / n = div-mul-add (a.region / n) 4096 a.offset p.offset in
+    let d : (a.region / n * 4096 + a.offset) / 4096 ≡ a.region / n = div-mul-add
+    (a.region / n) 4096 a.offset p.offset in
     let m : (a.region / n * 4096 + a.offset) % 4096 ≡ a.offset = mod-mul-add (a.region / n) 4096 a.offset p.offset in
     let e : n * (a.region / n) + a.region % n ≡ a.region = div-add-mod a.region n in
-    let s : node + n * (a.region / n) ≡ a.region = add_comm node (n * (a.region / n)) ∙ ap (λ (x : ℕ). n * (a.region / n) + x) (sym p.home) ∙ e in
+    let s : node + n * (a.region / n) ≡ a.region = add_comm node (n * (a.region / n))
+    ∙ ap (λ (x : ℕ). n * (a.region / n) + x) (sym p.home) ∙ e in
     let t : node + n * ((a.region / n * 4096 + a.offset) / 4096) ≡ a.region = ap (λ (x : ℕ). node + n * x) d ∙ s in (
       a.region / n * 4096 + a.offset,
       omega arith,
-      sym (ap (λ (x : ℕ). record { region = x; offset = (a.region / n * 4096 + a.offset) % 4096 }) t ∙ ap (λ (x : ℕ). record { region = a.region; offset = x }) m),
+      sym (ap (λ (x : ℕ). record { region = x; offset = (a.region / n * 4096 + a.offset) % 4096 }) t
+          ∙ ap (λ (x : ℕ). record { region = a.region; offset = x }) m),
     )
 
 -- a node with a vacant place is not full
-pub not_full : (v : MemView) (node number : ℕ) → node < v.nodes → number < PLACE_COUNT → IsVacant v.over v.heap (place_at v.nodes node number) → IsFull v node → ⊥
-not_full v node number low below vacant full = full (place_at v.nodes node number) (place_of v.nodes node number low below) vacant
+pub not_full : (v : MemView) (node number : ℕ) → node < v.nodes → number < PLACE_COUNT
+    → IsVacant v.over v.heap (place_at v.nodes node number) → IsFull v node → ⊥
+not_full v node number low below vacant full = full (place_at v.nodes node number)
+    (place_of v.nodes node number low below) vacant

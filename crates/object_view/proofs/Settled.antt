@@ -19,17 +19,24 @@ pub settled : (heap later : BTreeMap Addr (List ℕ)) (over rest : BTreeMap Addr
     → ((a : Addr) → get addr_order later a ≡ cond (same_addr at a) slot.bytes (get addr_order heap a))
     → (a : Addr) → stood (heap_in later) (overlay_of rest) a ≡ stood (heap_in heap) (overlay_of over) a
 settled heap later over rest at slot up was is a =
-    let step : standing (get addr_order rest a) (get addr_order later a) ≡ standing (cond (same_addr at a) None (get addr_order over a)) (cond (same_addr at a) slot.bytes (get addr_order heap a))
-    = ap (λ (s : Option Slot). standing s (get addr_order later a)) (up.0 a) ∙ ap (standing (cond (same_addr at a) None (get addr_order over a))) (is a) in
-    let cased = λ (t : Bool). standing (cond t None (get addr_order over a)) (cond t slot.bytes (get addr_order heap a)) in
+    let step : standing (get addr_order rest a) (get addr_order later a) ≡ standing (cond (same_addr at a) None
+    (get addr_order over a)) (cond (same_addr at a) slot.bytes (get addr_order heap a))
+    = ap (λ (s : Option Slot). standing s (get addr_order later a)) (up.0 a)
+    ∙ ap (standing (cond (same_addr at a) None (get addr_order over a))) (is a) in
+    let cased = λ (t : Bool). standing (cond t None (get addr_order over a)) (cond t slot.bytes
+    (get addr_order heap a)) in
     elim (same_or at a) [
       | inl s ↦
-          let there : get addr_order over a ≡ Some slot = subst (λ (x : Addr). get addr_order over x ≡ Some slot) s.1 was in
-          step ∙ ap cased s.0 ∙ bytes_back 1 slot.bytes ∙ sym (bytes_back 0 slot.bytes) ∙ ap (λ (o : Option Slot). standing o (get addr_order heap a)) (sym there)
+          let there : get addr_order over a ≡ Some slot = subst (λ
+          (x : Addr). get addr_order over x ≡ Some slot) s.1 was in
+          step ∙ ap cased s.0 ∙ bytes_back 1 slot.bytes ∙ sym (bytes_back 0 slot.bytes)
+          ∙ ap (λ (o : Option Slot). standing o (get addr_order heap a)) (sym there)
       | inr f ↦ step ∙ ap cased f
     ]
 
-pub all_settled : (heap : BTreeMap Addr (List ℕ)) (over : BTreeMap Addr Slot) → length over.entries ≡ 0 → (a : Addr) → get addr_order heap a ≡ stood (heap_in heap) (overlay_of over) a
+pub all_settled : (heap : BTreeMap Addr (List ℕ)) (over : BTreeMap Addr Slot) → length over.entries ≡ 0
+    → (a : Addr) → get addr_order heap a ≡ stood (heap_in heap) (overlay_of over) a
 all_settled heap over none a =
     let e : over.entries ≡ [] = nil_from_length over.entries none in
-    sym (bytes_back 1 (get addr_order heap a)) ∙ ap (λ es. standing (lookup (is_at (addr_order a)) es) (get addr_order heap a)) (sym e)
+    sym (bytes_back 1 (get addr_order heap a))
+    ∙ ap (λ es. standing (lookup (is_at (addr_order a)) es) (get addr_order heap a)) (sym e)

@@ -25,7 +25,8 @@ IsFull v node = (a : Addr) → IsPlace v.nodes node a → IsVacant v.over v.heap
 
 -- the vacant place of the lowest number
 abbrev pub IsFirstVacant : MemView → ℕ → Addr → Type 0
-IsFirstVacant v node a = (number : ℕ) × (a ≡ place_at v.nodes node number) × IsVacant v.over v.heap a × IsTakenBelow v.over v.heap v.nodes node number
+IsFirstVacant v node a = (number : ℕ) ×
+    (a ≡ place_at v.nodes node number) × IsVacant v.over v.heap a × IsTakenBelow v.over v.heap v.nodes node number
 
 -- an alloc answers the first vacant place, and Spent exactly where there is none
 abbrev pub AllocGives : MemView → ℕ → Result Addr ViewFault → MemView → Type 0

@@ -8,7 +8,8 @@ use Rattle.object_view.specs.Agreement.{Seen, Heap, Overlay, State, Agrees, same
 use Rattle.object_view.specs.Calls.{IsSteady}
 
 -- from a view to a later one: what agrees with the later agrees with the earlier
-pub record Onward {S K : Type 0} (trace : S → List Seen) (overlay : S → Overlay) (reach : S → ℕ → Bool) (number : S → ℕ) (keep : S → K) (old new : S) : Type 0 where
+pub record Onward {S K : Type 0} (trace : S → List Seen) (overlay : S → Overlay) (reach : S → ℕ
+    → Bool) (number : S → ℕ) (keep : S → K) (old new : S) : Type 0 where
   pub agreed : (h : Heap) → Agrees h (trace new) (overlay new) → Agrees h (trace old) (overlay old)
   pub steady : IsSteady reach number keep old new
 

@@ -37,7 +37,8 @@ found_at objects a = lookup (same_addr a) objects
 
 -- an address of some node, and as many bytes as an object may have
 abbrev pub IsStored : ℕ → Addr → List ℕ → Type 0
-IsStored nodes a bytes = (a.region < REGION_LIMIT * nodes) × (a.offset < REGION_WIDTH) × (1 ≤ length bytes) × (length bytes ≤ OBJECT_LIMIT)
+IsStored nodes a bytes = (a.region < REGION_LIMIT * nodes) × (a.offset < REGION_WIDTH) × (1 ≤ length bytes) ×
+    (length bytes ≤ OBJECT_LIMIT)
 
 -- objects at distinct addresses, each at a place of some node
 pub record IsObjectList (nodes : ℕ) (objects : List (Addr × List ℕ)) : Type 0 where

@@ -55,7 +55,8 @@ fn copied(alloc: Global, bytes: &Bin) -> Result<Bin, ViewFault>
 
 // Puts bytes at an address, or takes those there away.
 fn settle(heap: &mut BTreeMap<Addr, Bin>, at: Addr, bytes: Option<Bin>) -> Result<(), Memory>
-    ensures { OnOk result ((a : Addr) → get addr_order heap.new a ≡ cond (same_addr at a) bytes (get addr_order heap.old a)) }
+    ensures { OnOk result ((a : Addr) →
+        get addr_order heap.new a ≡ cond (same_addr at a) bytes (get addr_order heap.old a)) }
 {
     match bytes {
         None => {
@@ -229,7 +230,8 @@ impl MemView {
         requires some { 1 ≤ nodes }
         requires few { nodes ≤ NODE_LIMIT }
         requires objects { IsObjectList nodes heap.items }
-        ensures heap { IfOk result (λ view. (a : Addr) → heap_of view a ≡ object_of OPENING_STAMP (found_at heap.items a)) }
+        ensures heap { IfOk result (λ view. (a : Addr) →
+            heap_of view a ≡ object_of OPENING_STAMP (found_at heap.items a)) }
         ensures overlay { IfOk result (λ view. overlay_in view ≡ (λ a. None)) }
         ensures trace { IfOk result (λ view. trace_of view ≡ []) }
         ensures nodes { IfOk result (λ view. view.nodes ≡ nodes) }

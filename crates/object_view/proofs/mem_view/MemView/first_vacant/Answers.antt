@@ -9,4 +9,5 @@ returns-clause-full c a place vacant =
     let n = number_of a c.args.self.now.nodes c.args.node c.args.self.now.nodes_fit.0 place in
     let end = c.loop-number-test.false in
     let below : n.0 < c.loop-number.number = omega (arith, end, n.1) in
-    c.loop-number.invariant n.0 below (subst (λ (x : Addr). IsVacant c.args.self.now.over c.args.self.now.heap x) n.2 vacant)
+    c.loop-number.invariant n.0 below (subst (λ
+    (x : Addr). IsVacant c.args.self.now.over c.args.self.now.heap x) n.2 vacant)
