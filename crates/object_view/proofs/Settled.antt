@@ -1,8 +1,6 @@
 -- The overlay settled into the heap, write by write.
-use Rattle.std.proofs.Common.{◌≡◌, inl, inr, ℕ, Bool, List, [], length, Option, Some, None, ap, sym, subst, ◌∙◌, cond}
-use Rattle.std.proofs.lemmas.List.{nil_from_length}
-use Rattle.std.specs.BTreeMap.{BTreeMap, get, is_at, Updates}
-use Rattle.std.specs.Map.{lookup}
+use Rattle.std.proofs.Common.{◌≡◌, inl, inr, ℕ, Bool, List, Option, Some, None, ap, sym, subst, ◌∙◌, cond}
+use Rattle.std.specs.BTreeMap.{BTreeMap, get, Updates}
 use Rattle.a1_base.specs.declared.place.Addr.{Addr}
 use Rattle.object_view.specs.declared.mem_view.Slot.{Slot}
 use Rattle.object_view.specs.Agreement.{addr_order, same_addr, stood, bytes_of, covered, object_of}
@@ -33,10 +31,3 @@ settled heap later over rest at slot up was is a =
           ∙ ap (λ (o : Option Slot). standing o (get addr_order heap a)) (sym there)
       | inr f ↦ step ∙ ap cased f
     ]
-
-pub all_settled : (heap : BTreeMap Addr (List ℕ)) (over : BTreeMap Addr Slot) → length over.entries ≡ 0
-    → (a : Addr) → get addr_order heap a ≡ stood (heap_in heap) (overlay_of over) a
-all_settled heap over none a =
-    let e : over.entries ≡ [] = nil_from_length over.entries none in
-    sym (bytes_back 1 (get addr_order heap a))
-    ∙ ap (λ es. standing (lookup (is_at (addr_order a)) es) (get addr_order heap a)) (sym e)
