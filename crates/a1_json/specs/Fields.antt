@@ -1,42 +1,41 @@
 -- Looking into a tree.
-use Rattle.std.specs.Prelude.{ℕ, List, [], ◌∷◌, length, ◌==◌, Option, Some, None, if◌then◌else◌}
+use Rattle.std.specs.Prelude.{ℕ, ℤ, List, [], ◌∷◌, Bool, Option, Some, None, if◌then◌else◌}
 use Rattle.std.specs.Str.{bytes_eq}
 use Rattle.a1_json.specs.declared.tree.Json.{Json, out-Json}
 use Rattle.a1_json.specs.declared.tree.Json.TheOpen.{Json-F}
 
+-- the members of an object, by the bytes of their names
+abbrev pub Fields : Type 0
+Fields = List (List ℕ × Json)
+
 -- the value of the first member of this name
-abbrev pub named_in : List ℕ → List (List ℕ × Json) → Option Json
-named_in name [] = None
-named_in name (m ∷ ms) = if bytes_eq m.0 name then Some m.1 else named_in name ms
+abbrev pub member_of : List ℕ → Fields → Option Json
+member_of name [] = None
+member_of name (m ∷ ms) = if bytes_eq m.0 name then Some m.1 else member_of name ms
 
-abbrev pub member_at : ℕ → List ℕ → Json-F Json → Option Json
-member_at count name Json-F.Null = None
-member_at count name (Json-F.Bool b) = None
-member_at count name (Json-F.Int z) = None
-member_at count name (Json-F.Text s) = None
-member_at count name (Json-F.List js) = None
-member_at count name (Json-F.Members ms) = if length ms == count then named_in name ms else None
+abbrev pub members_at : Json-F Json → Option Fields
+members_at Json-F.Null = None
+members_at (Json-F.Bool b) = None
+members_at (Json-F.Int z) = None
+members_at (Json-F.Text s) = None
+members_at (Json-F.List js) = None
+members_at (Json-F.Members ms) = Some ms
 
--- the member of this name, of an object of just so many members
-abbrev pub member_of : ℕ → List ℕ → Json → Option Json
-member_of count name json = member_at count name (out-Json json)
+-- the members, where it is an object
+abbrev pub as_members : Json → Option Fields
+as_members json = members_at (out-Json json)
 
-abbrev pub only_of : List Json → Option Json
-only_of [] = None
-only_of (j ∷ []) = Some j
-only_of (j ∷ k ∷ js) = None
+abbrev pub list_at : Json-F Json → Option (List Json)
+list_at Json-F.Null = None
+list_at (Json-F.Bool b) = None
+list_at (Json-F.Int z) = None
+list_at (Json-F.Text s) = None
+list_at (Json-F.List js) = Some js
+list_at (Json-F.Members ms) = None
 
-abbrev pub item_at : Json-F Json → Option Json
-item_at Json-F.Null = None
-item_at (Json-F.Bool b) = None
-item_at (Json-F.Int z) = None
-item_at (Json-F.Text s) = None
-item_at (Json-F.List js) = only_of js
-item_at (Json-F.Members ms) = None
-
--- the item of a list that has no other
-abbrev pub item_of : Json → Option Json
-item_of json = item_at (out-Json json)
+-- the items, where it is a list
+abbrev pub as_list : Json → Option (List Json)
+as_list json = list_at (out-Json json)
 
 abbrev pub text_at : Json-F Json → Option (List ℕ)
 text_at Json-F.Null = None
@@ -49,3 +48,27 @@ text_at (Json-F.Members ms) = None
 -- the text, where it is one
 abbrev pub as_text : Json → Option (List ℕ)
 as_text json = text_at (out-Json json)
+
+abbrev pub int_at : Json-F Json → Option ℤ
+int_at Json-F.Null = None
+int_at (Json-F.Bool b) = None
+int_at (Json-F.Int z) = Some z
+int_at (Json-F.Text s) = None
+int_at (Json-F.List js) = None
+int_at (Json-F.Members ms) = None
+
+-- the number, where it is one
+abbrev pub as_int : Json → Option ℤ
+as_int json = int_at (out-Json json)
+
+abbrev pub flag_at : Json-F Json → Option Bool
+flag_at Json-F.Null = None
+flag_at (Json-F.Bool b) = Some b
+flag_at (Json-F.Int z) = None
+flag_at (Json-F.Text s) = None
+flag_at (Json-F.List js) = None
+flag_at (Json-F.Members ms) = None
+
+-- the truth value, where it is one
+abbrev pub as_flag : Json → Option Bool
+as_flag json = flag_at (out-Json json)

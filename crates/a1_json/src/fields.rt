@@ -1,13 +1,13 @@
 //! Looking into a tree.
 ghost use Rattle.std.specs.Prelude.{◌≡◌, option_map};
-ghost use Rattle.a1_json.specs.Fields.{named_in, member_of, item_of, as_text};
+ghost use Rattle.a1_json.specs.Fields.{member_of, as_members, as_list, as_text, as_int, as_flag};
 
 use crate::Json;
 use a1_base::Txt;
 
-// The value of the first member of this name.
-fn named<'a>(members: &'a [(Txt, Json)], name: &str) -> Option<&'a Json>
-    ensures { option_map (λ j. j.now) result ≡ named_in name.now members.now }
+/// The value of the first member of this name.
+pub fn member<'a>(members: &'a [(Txt, Json)], name: &str) -> Option<&'a Json>
+    ensures { option_map (λ j. j.now) result ≡ member_of name.now members.now }
 {
     for member in members {
         if member.0.as_text() == name {
@@ -18,31 +18,22 @@ fn named<'a>(members: &'a [(Txt, Json)], name: &str) -> Option<&'a Json>
 }
 
 impl Json {
-    /// The value of the member of this name, of an object of just so many members.
-    pub fn member(&self, count: usize, name: &str) -> Option<&Json>
-        ensures { option_map (λ j. j.now) result ≡ member_of count name.now self.now }
+    /// The members, where it is an object.
+    pub fn as_members(&self) -> Option<&[(Txt, Json)]>
+        ensures { option_map (λ ms. ms.now) result ≡ as_members self.now }
     {
         match self {
-            Json::Members(members) => {
-                if members.len() == count {
-                    named(members.as_slice(), name)
-                } else {
-                    None
-                }
-            }
+            Json::Members(members) => Some(members.as_slice()),
             _ => None,
         }
     }
 
-    /// The item of a list that has no other.
-    pub fn only_item(&self) -> Option<&Json>
-        ensures { option_map (λ j. j.now) result ≡ item_of self.now }
+    /// The items, where it is a list.
+    pub fn as_list(&self) -> Option<&[Json]>
+        ensures { option_map (λ js. js.now) result ≡ as_list self.now }
     {
         match self {
-            Json::List(items) => match items.as_slice() {
-                [item] => Some(item),
-                _ => None,
-            },
+            Json::List(items) => Some(items.as_slice()),
             _ => None,
         }
     }
@@ -53,6 +44,26 @@ impl Json {
     {
         match self {
             Json::Text(text) => Some(text.as_text()),
+            _ => None,
+        }
+    }
+
+    /// The number, where it is one.
+    pub fn as_int(&self) -> Option<i64>
+        ensures { result ≡ as_int self.now }
+    {
+        match self {
+            Json::Int(n) => Some(*n),
+            _ => None,
+        }
+    }
+
+    /// The truth value, where it is one.
+    pub fn as_flag(&self) -> Option<bool>
+        ensures { result ≡ as_flag self.now }
+    {
+        match self {
+            Json::Bool(flag) => Some(*flag),
             _ => None,
         }
     }

@@ -11,6 +11,7 @@ mod tests;
 mod tree;
 mod writing;
 
+pub use fields::member;
 pub use reading::read;
 pub use tree::{Json, JsonFault};
 pub use writing::{put_member, write};

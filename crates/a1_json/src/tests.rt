@@ -1,4 +1,4 @@
-use crate::{Json, JsonFault, read, write};
+use crate::{Json, JsonFault, member, read, write};
 use std::alloc::{AllocError, Global};
 use std::test::Fail;
 
@@ -59,10 +59,14 @@ fn nested(alloc: Global, depth: usize) -> Result<Vec<u8>, AllocError> {
 
 #[test]
 fn looks_into_a_tree(rt: HostRuntime) -> Result<(), Fail> {
-    let json = read(rt.alloc(), br#"{"list":["only"],"text":"x"}"#)?;
-    assert_eq!(rt; json.member(2, "text").and_then(Json::as_text), Some("x"));
-    let list = json.member(2, "list").ok_or("no list")?;
-    assert_eq!(rt; list.only_item().and_then(Json::as_text), Some("only"));
-    assert!(rt; json.member(1, "text").is_none());
+    let json = read(rt.alloc(), br#"{"flag":true,"list":["only"],"n":-3,"text":"x"}"#)?;
+    let members = json.as_members().ok_or("no object")?;
+    let list = member(members, "list").and_then(Json::as_list).ok_or("no list")?;
+    assert_eq!(rt; list.len(), 1);
+    assert_eq!(rt; member(members, "text").and_then(Json::as_text), Some("x"));
+    assert_eq!(rt; member(members, "n").and_then(Json::as_int), Some(-3));
+    assert_eq!(rt; member(members, "flag").and_then(Json::as_flag), Some(true));
+    assert!(rt; member(members, "other").is_none());
+    assert!(rt; json.as_text().is_none() && json.as_list().is_none());
     Ok(())
 }

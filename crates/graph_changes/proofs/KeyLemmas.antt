@@ -18,12 +18,12 @@ use Rattle.type_schema.specs.declared.names.VertexName.{VertexName}
 use Rattle.type_schema.specs.declared.names.EdgeName.{EdgeName}
 use Rattle.type_schema.specs.declared.rows.StoreKey.{StoreKey}
 use Rattle.type_schema.specs.declared.rows.StoreKey.TheVariants as key
-use Rattle.type_schema.specs.Names.{Name, is_letter, is_name_byte, is_name}
+use Rattle.type_schema.specs.Names.{Name, is_letter, is_name_byte, is_name, cut, graph_of, graph_whole}
 use Rattle.type_schema.specs.Layout.{name_bytes, row_key}
 use Rattle.type_schema.specs.Formed.{is_graph_number, IsStoreKey}
 use Rattle.type_schema.specs.Reading.{name_front}
 use Rattle.type_schema.proofs.LayoutLemmas.{name_exact}
-use Rattle.graph_changes.specs.Reading.{name_whole, cut, graph_of, graph_whole, graph_number_front, type_front, vertex_front, edge_front, key_of_tag, key_whole}
+use Rattle.graph_changes.specs.Reading.{name_whole, graph_number_front, type_front, vertex_front, edge_front, key_of_tag, key_whole}
 
 -- what is made of a value that all of some bytes are
 pub whole_takes : {A K : Type 0} (read : List ℕ → Option A) (s : A → List ℕ) (P : A → Type 0) → ExactWhole read s P → (f : A → K) (spelling : K → List ℕ) (Q : K → Type 0) (front : List ℕ)

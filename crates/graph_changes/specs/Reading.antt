@@ -3,7 +3,6 @@ use Rattle.std.specs.Prelude.{ℕ, List, [], ◌∷◌, length, Bool, true, ◌&
 use Rattle.std.specs.Int.{w32, w64}
 use Rattle.a1_base.specs.Fronts.{Front, byte, number, both, made, tested, sized, whole, inside}
 use Rattle.a1_value.specs.Encoding.{key_front}
-use Rattle.type_schema.specs.declared.names.GraphName.{GraphName}
 use Rattle.type_schema.specs.declared.names.TypeName.{TypeName}
 use Rattle.type_schema.specs.declared.names.VertexName.{VertexName}
 use Rattle.type_schema.specs.declared.names.EdgeName.{EdgeName}
@@ -14,7 +13,7 @@ use Rattle.type_schema.specs.declared.rows.StoreValue.TheVariants as value
 use Rattle.type_schema.specs.declared.rows.TypeSchema.{TypeSchema}
 use Rattle.type_schema.specs.declared.rows.TypeSchema.TheVariants.{OfVertices, OfEdges}
 use Rattle.type_schema.specs.declared.rows.Change.{Change}
-use Rattle.type_schema.specs.Names.{Name, is_name}
+use Rattle.type_schema.specs.Names.{Name, is_name, graph_whole}
 use Rattle.type_schema.specs.Schemas.{Schema}
 use Rattle.type_schema.specs.Formed.{is_graph_number, is_counter, is_type}
 use Rattle.type_schema.specs.Reading.{name_front, schema_front, record_front}
@@ -24,18 +23,6 @@ use Rattle.type_schema.specs.Reading.{name_front, schema_front, record_front}
 -- the name that the bytes are
 abbrev pub name_whole : List ℕ → Option Name
 name_whole bytes = if is_name bytes then Some bytes else None
-
--- the bytes in front of the first mark and behind it
-unfoldable pub cut : ℕ → List ℕ → Option (List ℕ × List ℕ)
-cut mark [] = None
-cut mark (b ∷ bytes) = if b == mark then Some ([], bytes) else option_map (λ p. (b ∷ p.0, p.1)) (cut mark bytes)
-
-abbrev pub graph_of : List ℕ × List ℕ → Option GraphName
-graph_of names = if is_name names.0 && is_name names.1 then Some (record { tenant = names.0; name = names.1 }) else None
-
--- the graph that the bytes name
-unfoldable pub graph_whole : List ℕ → Option GraphName
-graph_whole bytes = option_and_then graph_of (cut 47 bytes)
 
 unfoldable pub graph_number_front : Front ℕ
 graph_number_front bytes = tested is_graph_number (number w64) bytes

@@ -3,13 +3,14 @@ ghost use Rattle.std.specs.Prelude.{◌≡◌, ◌++◌, option_map, OnOk};
 ghost use Rattle.a1_base.specs.Fronts.{whole, ReadsFront, ReadsWhole};
 ghost use Rattle.type_schema.specs.Layout.{row_key};
 ghost use Rattle.type_schema.specs.Formed.{IsStoreKey};
-ghost use Rattle.graph_changes.specs.Reading.{name_whole, cut, graph_whole, graph_number_front, type_front, vertex_front, edge_front, key_of_tag, key_whole};
+ghost use Rattle.graph_changes.specs.Reading.{name_whole, graph_number_front, type_front, vertex_front, edge_front, key_of_tag, key_whole};
 
 use a1_base::{Bin, GRAPH_NUMBER_LIMIT, Memory, ReadFault, Txt, front_byte, front_u64, push_u64};
 use a1_value::{front_key, push_key};
 use std::alloc::Global;
 use type_schema::{
     EdgeName, GraphName, StoreKey, TypeName, VertexName, front_name, name_of, push_name,
+    whole_graph,
 };
 
 // ---- writing
@@ -90,37 +91,6 @@ fn whole_name(alloc: Global, bytes: &[u8]) -> Result<Txt, ReadFault>
         return Err(ReadFault::Malformed);
     };
     Ok(Txt::from_text(alloc, name)?)
-}
-
-// The bytes in front of the first slash, and behind it.
-fn cut(bytes: &[u8]) -> Option<(&[u8], &[u8])>
-    ensures { cut 47 bytes.now ≡ option_map (λ x. (x.0.now, x.1.now)) result }
-{
-    for (at, byte) in bytes.iter().enumerate() {
-        if *byte == b'/' {
-            let (front, rest) = bytes.split_at(at);
-            return Some((front, rest.split_at(1).1));
-        }
-    }
-    None
-}
-
-#[tactic(auto, unfolding(crate::specs::Reading::graph_whole))]
-fn whole_graph(alloc: Global, bytes: &[u8]) -> Result<GraphName, ReadFault>
-    ensures { ReadsWhole result (graph_whole bytes.now) }
-{
-    let Some((tenant, name)) = cut(bytes) else {
-        return Err(ReadFault::Malformed);
-    };
-    let Some(tenant) = name_of(tenant) else {
-        return Err(ReadFault::Malformed);
-    };
-    let Some(name) = name_of(name) else {
-        return Err(ReadFault::Malformed);
-    };
-    let tenant = Txt::from_text(alloc, tenant)?;
-    let name = Txt::from_text(alloc, name)?;
-    Ok(GraphName { tenant, name })
 }
 
 /// The number of a graph in front, and the bytes behind it.

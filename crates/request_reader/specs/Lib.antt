@@ -1,3 +1,4 @@
-pub mod Graph
+pub mod Operations
+pub mod Forms
 pub mod Request
-pub mod Effect
+pub mod Answers

@@ -1,82 +1,277 @@
 -- What a line asks for, read over its JSON tree.
-use Rattle.std.specs.Prelude.{◌≡◌, ℕ, ◌&&◌, List, length, Bool, false, nat_le, if◌then◌else◌, Option, Some, None, option_and_then, Result, Ok, Err, codes, ⊤}
+use Rattle.std.specs.Prelude.{◌≡◌, ℕ, ℤ, List, [], ◌∷◌, Bool, true, false, not, ◌&&◌, ◌||◌, Option, Some, None, is_some, option_map, option_and_then, Result, Ok, Err, if◌then◌else◌, codes, ⊤}
+use Rattle.std.specs.List.{list_all}
 use Rattle.std.specs.Str.{bytes_eq}
-use Rattle.a1_base.specs.declared.limits.TheConstants.{KEY_LIMIT}
 use Rattle.a1_json.specs.declared.tree.Json.{Json}
 use Rattle.a1_json.specs.declared.tree.JsonFault.{JsonFault}
+use Rattle.a1_json.specs.declared.tree.JsonFault.TheVariants as json_fault
 use Rattle.a1_json.specs.Tree.{json_of}
-use Rattle.a1_json.specs.Fields.{member_of, item_of, as_text}
+use Rattle.a1_json.specs.Fields.{Fields, member_of, as_members, as_list, as_text, as_int, as_flag}
+use Rattle.a1_value.specs.declared.given.Given.{Given}
+use Rattle.a1_value.specs.declared.given.Given.TheVariants as given
+use Rattle.type_schema.specs.declared.names.GraphName.{GraphName}
+use Rattle.type_schema.specs.declared.rows.TypeSchema.{TypeSchema}
+use Rattle.type_schema.specs.declared.rows.TypeSchema.TheVariants.{OfVertices, OfEdges}
+use Rattle.type_schema.specs.declared.schema.Attr.{Attr}
+use Rattle.type_schema.specs.declared.schema.Kind.{Kind}
+use Rattle.type_schema.specs.declared.schema.Kind.TheVariants as kind
+use Rattle.type_schema.specs.Names.{Name, graph_whole}
+use Rattle.type_schema.specs.Refusals.{need, passing, unless}
+use Rattle.type_schema.specs.Schemas.{Schema, Members}
+use Rattle.type_schema.specs.Formed.{is_type}
+use Rattle.request_reader.specs.declared.forms.Verb.{Verb}
+use Rattle.request_reader.specs.declared.forms.Verb.TheVariants as verb
+use Rattle.request_reader.specs.declared.operation.End.{End}
+use Rattle.request_reader.specs.declared.operation.Op.{Op}
+use Rattle.request_reader.specs.declared.operation.Op.TheVariants as op
 use Rattle.request_reader.specs.declared.request.Request.{Request}
-use Rattle.request_reader.specs.declared.request.Request.TheVariants.{Put, Ask}
+use Rattle.request_reader.specs.declared.request.Request.TheVariants.{Do, Name as NameAsked}
 use Rattle.request_reader.specs.declared.request.BadWord.{BadWord}
-use Rattle.request_reader.specs.declared.request.BadWord.TheVariants.{NotBuilt}
+use Rattle.request_reader.specs.declared.request.BadWord.TheVariants as bad
 use Rattle.request_reader.specs.declared.request.RequestFault.{RequestFault}
-use Rattle.request_reader.specs.declared.request.RequestFault.TheVariants.{Bad, Memory}
+use Rattle.request_reader.specs.declared.request.RequestFault.TheVariants as fault
+use Rattle.request_reader.specs.Forms.{fields_or_none, items_or_none, fields_in, items_in, verb_of, body_fits, body_named}
+
+-- ---- a request for a name
 
 abbrev pub equals_text : List ℕ → Option (List ℕ) → Bool
 equals_text text None = false
 equals_text text (Some found) = bytes_eq found text
 
--- whether it is there and is this text
+-- whether the member is there and is this text
 abbrev pub is_text : List ℕ → Option Json → Bool
 is_text text json = equals_text text (option_and_then as_text json)
 
--- a text that may be a key
-abbrev pub key_text : List ℕ → Option (List ℕ)
-key_text text = if nat_le (length text) KEY_LIMIT then Some text else None
-
--- the value of the only member `id`
-abbrev pub id_in : Option Json → Option Json
-id_in json = option_and_then (member_of 1 (codes "id")) json
-
--- X, in `{"graph":"sys/names","type":"name","v":{"id":X}}` with X a text that may be a key
-abbrev pub name_put : Json → Option (List ℕ)
-name_put put =
-    if is_text (codes "sys/names") (member_of 3 (codes "graph") put)
-    && is_text (codes "name") (member_of 3 (codes "type") put)
-    then option_and_then key_text (option_and_then as_text (id_in (member_of 3 (codes "v") put)))
-    else None
-
--- X, in `{"do":[{"put":{..}}]}`
-abbrev pub name_in_do : Json → Option (List ℕ)
-name_in_do json =
-    option_and_then name_put
-    (option_and_then (member_of 1 (codes "put")) (option_and_then item_of (member_of 1 (codes "do") json)))
+-- an object of two members, of these names
+abbrev pub has_two : List ℕ → List ℕ → Fields → Bool
+has_two one two (a ∷ b ∷ []) = bytes_eq a.0 one && bytes_eq b.0 two
+has_two one two fields = false
 
 -- X, in `{"_type":"name","id":X}` with X a text
-abbrev pub name_asked : Json → Option (List ℕ)
-name_asked pattern =
-    if is_text (codes "name") (member_of 2 (codes "_type") pattern)
-    then option_and_then as_text (member_of 2 (codes "id") pattern)
+abbrev pub name_in : Json → Option (List ℕ)
+name_in pattern =
+    if has_two (codes "_type") (codes "id") (fields_in pattern)
+        && is_text (codes "name") (member_of (codes "_type") (fields_in pattern))
+    then option_and_then as_text (member_of (codes "id") (fields_in pattern))
     else None
 
 -- X, in `{"ask":{..},"graph":"sys/names"}`
-abbrev pub name_in_ask : Json → Option (List ℕ)
-name_in_ask json =
-    if is_text (codes "sys/names") (member_of 2 (codes "graph") json)
-    then option_and_then name_asked (member_of 2 (codes "ask") json)
+unfoldable pub name_asked : Json → Option (List ℕ)
+name_asked json =
+    if has_two (codes "ask") (codes "graph") (fields_in json)
+        && is_text (codes "sys/names") (member_of (codes "graph") (fields_in json))
+    then option_and_then name_in (member_of (codes "ask") (fields_in json))
     else None
 
-abbrev pub put_or_ask : Option (List ℕ) → Option (List ℕ) → Result Request BadWord
-put_or_ask (Some name) asked = Ok (Put name)
-put_or_ask None (Some name) = Ok (Ask name)
-put_or_ask None None = Err NotBuilt
+-- ---- form
 
--- the tree of a line, where it has one
-abbrev pub tree_in : Result Json JsonFault → Option Json
-tree_in (Ok json) = Some json
-tree_in (Err fault) = None
+-- an operation's name with what stands there, where the object has one member
+abbrev pub only_member : Fields → Option (List ℕ × Json)
+only_member [] = None
+only_member (m ∷ []) = Some m
+only_member (m ∷ n ∷ fields) = None
 
-abbrev pub request_in : Option Json → Result Request BadWord
-request_in None = Err NotBuilt
-request_in (Some json) = put_or_ask (name_in_do json) (name_in_ask json)
+-- an operation with its object
+abbrev pub of_verb : List ℕ × Json → Option (Verb × Json)
+of_verb m = option_map (λ v. (v, m.1)) (verb_of m.0)
+
+unfoldable pub operation : Json → Option (Verb × Json)
+operation json = option_and_then of_verb (only_member (fields_in json))
+
+abbrev pub operation_fits : Option (Verb × Json) → Bool
+operation_fits None = false
+operation_fits (Some o) = body_fits o.0 o.1
+
+abbrev pub operation_named : Option (Verb × Json) → Bool
+operation_named None = false
+operation_named (Some o) = body_named o.0 o.1
+
+abbrev pub is_do : Option (List ℕ × Json) → Bool
+is_do None = false
+is_do (Some m) = bytes_eq m.0 (codes "do")
+
+abbrev pub operations_in : Option (List ℕ × Json) → List Json
+operations_in None = []
+operations_in (Some m) = items_in m.1
+
+-- the operations of `{"do":[..]}`
+unfoldable pub operations : Json → List Json
+operations json = if is_do (only_member (fields_in json)) then operations_in (only_member (fields_in json)) else []
+
+abbrev pub is_some_list : List Json → Bool
+is_some_list [] = false
+is_some_list (j ∷ js) = true
+
+-- ---- what an operation says: that each part is there was looked at before
+
+abbrev pub text_in : List ℕ → Fields → Result (List ℕ) BadWord
+text_in name fields = need (option_and_then as_text (member_of name fields)) bad.Attrs Ok
+
+abbrev pub graph_in : List ℕ → Fields → Result GraphName BadWord
+graph_in name fields =
+    need (option_and_then graph_whole (option_and_then as_text (member_of name fields))) bad.Attrs Ok
+
+abbrev pub number_in : List ℕ → Fields → Result ℤ BadWord
+number_in name fields = need (option_and_then as_int (member_of name fields)) bad.Attrs Ok
+
+abbrev pub number_or_text : Option ℤ → Option (List ℕ) → Option Given
+number_or_text (Some n) text = Some (given.Int n)
+number_or_text None text = option_map given.Text text
+
+-- a number or a text, as it is given
+abbrev pub given_of : Json → Option Given
+given_of json = number_or_text (as_int json) (as_text json)
+
+abbrev pub given_in : List ℕ → Fields → Result Given BadWord
+given_in name fields = need (option_and_then given_of (member_of name fields)) bad.Attrs Ok
+
+abbrev pub given_before : Name → Option Given → Members → Members
+given_before name None members = members
+given_before name (Some g) members = (name, g) ∷ members
+
+-- the members that are numbers or texts
+abbrev pub given_members : Fields → Members
+given_members [] = []
+given_members (m ∷ fields) = given_before m.0 (given_of m.1) (given_members fields)
+
+-- the members of the object at this name, or none where nothing is there
+abbrev pub fields_at : List ℕ → Fields → Fields
+fields_at name fields = fields_or_none (option_and_then as_members (member_of name fields))
+
+abbrev pub values_in : List ℕ → Fields → Members
+values_in name fields = given_members (fields_at name fields)
+
+abbrev pub end_of : Fields → Result End BadWord
+end_of fields =
+    passing (text_in (codes "type") fields) (λ kind.
+    passing (given_in (codes "id") fields) (λ id.
+    Ok (record { kind = kind; id = id })))
+
+unfoldable pub end_in : List ℕ → Fields → Result End BadWord
+end_in name fields = end_of (fields_at name fields)
+
+-- ---- attributes
+
+-- `int`, `text` or `bytes`
+abbrev pub kind_named : List ℕ → Option Kind
+kind_named text =
+    if bytes_eq text (codes "int") then Some kind.Int
+    else if bytes_eq text (codes "text") then Some kind.Text
+    else if bytes_eq text (codes "bytes") then Some kind.Bytes
+    else None
+
+-- the flag, which is false where it is absent
+abbrev pub is_indexed : Option Bool → Bool
+is_indexed None = false
+is_indexed (Some flag) = flag
+
+unfoldable pub attr_of : Fields → Result Attr BadWord
+attr_of fields =
+    passing (text_in (codes "name") fields) (λ name.
+    need (option_and_then kind_named (option_and_then as_text (member_of (codes "kind") fields))) bad.Attrs (λ kind.
+    Ok (record {
+      name = name;
+      kind = kind;
+      index = is_indexed (option_and_then as_flag (member_of (codes "index") fields));
+    })))
+
+abbrev pub attrs_of : List Json → Result Schema BadWord
+attrs_of [] = Ok []
+attrs_of (j ∷ js) = passing (attr_of (fields_in j)) (λ attr. passing (attrs_of js) (λ attrs. Ok (attr ∷ attrs)))
+
+-- the schema, where it obeys the rule of its kind of type
+abbrev pub ruled : TypeSchema → Result TypeSchema BadWord
+ruled schema = unless (not (is_type schema)) bad.Attrs (Ok schema)
+
+unfoldable pub attrs_in : List ℕ → Fields → Result Schema BadWord
+attrs_in name fields = attrs_of (items_or_none (option_and_then as_list (member_of name fields)))
+
+-- ---- operations
+
+-- a new type: its schema as what it is of
+abbrev pub type_of : (Schema → TypeSchema) → Fields → Result Op BadWord
+type_of of fields =
+    passing (graph_in (codes "graph") fields) (λ graph.
+    passing (text_in (codes "type") fields) (λ name.
+    passing (attrs_in (codes "attrs") fields) (λ attrs.
+    passing (ruled (of attrs)) (λ schema.
+    Ok (op.CreateType graph name schema)))))
+
+abbrev pub text_of : Json → Result (List ℕ) BadWord
+text_of json = need (as_text json) bad.Attrs Ok
+
+abbrev pub graph_of : Json → Result GraphName BadWord
+graph_of json = need (option_and_then graph_whole (as_text json)) bad.Attrs Ok
+
+-- the graph and the type that an operation names, and the rest of it
+abbrev pub of_kind : Fields → (GraphName → Name → Result Op BadWord) → Result Op BadWord
+of_kind fields rest =
+    passing (graph_in (codes "graph") fields) (λ graph. passing (text_in (codes "type") fields) (λ kind. rest graph kind))
+
+abbrev pub with_id : Fields → (Given → Result Op BadWord) → Result Op BadWord
+with_id fields rest = passing (given_in (codes "id") fields) rest
+
+abbrev pub with_ends : Fields → (End → End → Result Op BadWord) → Result Op BadWord
+with_ends fields rest = passing (end_in (codes "from") fields) (λ from. passing (end_in (codes "to") fields) (λ to. rest from to))
+
+-- what the operation of this name says
+unfoldable pub said : Verb → Json → Result Op BadWord
+said verb.CreateTenant json = passing (text_of json) (λ name. Ok (op.CreateTenant name))
+said verb.CreateGraph json = passing (graph_of json) (λ graph. Ok (op.CreateGraph graph))
+said verb.DropGraph json = passing (graph_of json) (λ graph. Ok (op.DropGraph graph))
+said verb.CreateVertexType json = type_of OfVertices (fields_in json)
+said verb.CreateEdgeType json = type_of OfEdges (fields_in json)
+said verb.Put json = of_kind (fields_in json) (λ graph kind. Ok (op.Put graph kind (values_in (codes "v") (fields_in json))))
+said verb.Set json = of_kind (fields_in json) (λ graph kind.
+    with_id (fields_in json) (λ id. Ok (op.Set graph kind id (values_in (codes "v") (fields_in json)))))
+said verb.Add json = of_kind (fields_in json) (λ graph kind.
+    with_id (fields_in json) (λ id.
+    passing (text_in (codes "attr") (fields_in json)) (λ attr.
+    passing (number_in (codes "by") (fields_in json)) (λ by.
+    Ok (op.Add graph kind id attr by)))))
+said verb.Drop json = of_kind (fields_in json) (λ graph kind. with_id (fields_in json) (λ id. Ok (op.Drop graph kind id)))
+said verb.Link json = of_kind (fields_in json) (λ graph kind.
+    with_ends (fields_in json) (λ from to. Ok (op.Link graph kind from to (values_in (codes "v") (fields_in json)))))
+said verb.Unlink json = of_kind (fields_in json) (λ graph kind.
+    with_ends (fields_in json) (λ from to. Ok (op.Unlink graph kind from to)))
+
+abbrev pub said_by : Option (Verb × Json) → Result Op BadWord
+said_by None = Err bad.Attrs
+said_by (Some o) = said o.0 o.1
+
+unfoldable pub all_said : List Json → Result (List Op) BadWord
+all_said [] = Ok []
+all_said (j ∷ js) = passing (said_by (operation j)) (λ o. passing (all_said js) (λ ops. Ok (o ∷ ops)))
+
+-- ---- requests
+
+-- `{"do":[..]}`: over all operations first their form, then their names, then their lists of attributes
+unfoldable pub do_of : Json → Result Request BadWord
+do_of json =
+    unless (not (is_some_list (operations json) && list_all (λ j. operation_fits (operation j)) (operations json))) bad.Shape
+    (unless (not (list_all (λ j. operation_named (operation j)) (operations json))) bad.Name
+    (passing (all_said (operations json)) (λ ops. Ok (Do ops))))
+
+-- a member of an ask or an after, which are not built yet
+abbrev pub is_not_built : Json → Bool
+is_not_built json = is_some (member_of (codes "ask") (fields_in json)) || is_some (member_of (codes "after") (fields_in json))
+
+abbrev pub name_or_do : Option (List ℕ) → Json → Result Request BadWord
+name_or_do (Some name) json = Ok (NameAsked name)
+name_or_do None json = unless (is_not_built json) bad.NotBuilt (do_of json)
+
+abbrev pub request_in : Result Json JsonFault → Result Request BadWord
+request_in (Ok json) = name_or_do (name_asked json) json
+request_in (Err json_fault.NotJson) = Err bad.NotJson
+request_in (Err json_fault.NotWhole) = Err bad.NotWhole
+request_in (Err json_fault.Memory) = Err bad.NotJson
 
 -- what a line asks for, or the word by which it is turned away
 unfoldable pub request_of : List ℕ → Result Request BadWord
-request_of line = request_in (tree_in (json_of line))
+request_of line = request_in (json_of line)
 
 -- a reading gives this, or wants memory
-abbrev pub ReadsAsRequest : Result Request RequestFault → Result Request BadWord → Type 0
-ReadsAsRequest (Ok request) wanted = wanted ≡ Ok request
-ReadsAsRequest (Err (Bad word)) wanted = wanted ≡ Err word
-ReadsAsRequest (Err Memory) wanted = ⊤
+abbrev pub Reads : {X : Type 0} → Result X RequestFault → Result X BadWord → Type 0
+Reads (Ok x) wanted = wanted ≡ Ok x
+Reads (Err (fault.Bad word)) wanted = wanted ≡ Err word
+Reads (Err fault.Memory) wanted = ⊤

@@ -1,6 +1,8 @@
 //! What a line asks for.
+use crate::Op;
 use a1_base::Txt;
-use std::alloc::AllocError;
+use sqlite_items::Items;
+use std::alloc::{AllocError, AllocFailed};
 
 /// The graph that names stand in.
 pub const NAMES_GRAPH: &str = "sys/names";
@@ -11,17 +13,27 @@ pub const NAME_TYPE: &str = "name";
 /// What a line asks for.
 #[derive(Drop)]
 pub enum Request {
-    /// `{"do":[{"put":{"graph":"sys/names","type":"name","v":{"id":X}}}]}`: a name of at most `KEY_LIMIT` bytes is put.
-    Put(Txt),
+    /// `{"do":[..]}`: these operations are to be done, one behind the other, all or none.
+    Do(Items<Op>),
     /// `{"ask":{"_type":"name","id":X},"graph":"sys/names"}`: the vertex of this name is asked for.
-    Ask(Txt),
+    Name(Txt),
 }
 
-/// Why a line is no request.
+/// Why a line is no request: the first of these words that is true of it.
 #[derive(Clone, Copy, Debug, PartialEq, Eq)]
 pub enum BadWord {
-    /// It has none of the forms of a request.
+    /// It is no JSON text (RFC 8259).
+    NotJson,
+    /// A number in it is no whole number of 64 bits.
+    NotWhole,
+    /// It is an object with a member `ask` or `after`, and no request for a name: that is not built yet.
     NotBuilt,
+    /// It does not have the form of a request: a member is missing, unknown, or of another JSON kind.
+    Shape,
+    /// A text in the place of a name, or of a graph, is none.
+    Name,
+    /// A list of attributes breaks its rule.
+    Attrs,
 }
 
 /// Why a line is not read as a request.
@@ -40,6 +52,17 @@ impl From<AllocError> for RequestFault {
     ghost from_gives = { λ _ fault. fault ≡ Memory };
 
     fn from(_: AllocError) -> Self {
+        RequestFault::Memory
+    }
+}
+
+impl<T: Drop> From<AllocFailed<T>> for RequestFault {
+    ghost use Rattle.std.specs.Prelude.{◌≡◌};
+    ghost use Rattle.request_reader.specs.declared.request.RequestFault.TheVariants.{Memory};
+
+    ghost from_gives = { λ _ fault. fault ≡ Memory };
+
+    fn from(_: AllocFailed<T>) -> Self {
         RequestFault::Memory
     }
 }

@@ -5,11 +5,11 @@
 #![tactic(auto)]
 
 mod checking;
-mod fault;
 mod form;
 mod laws;
 mod layout;
 mod names;
+mod refusal;
 mod rows;
 mod schema;
 mod size;
@@ -17,10 +17,10 @@ mod size;
 mod tests;
 
 pub use checking::{check, merge};
-pub use fault::SchemaFault;
 pub use form::{is_type, name_of};
 pub use laws::layouts_read_back;
 pub use layout::{front_name, front_record, front_schema, push_name, push_record, push_schema};
-pub use names::{EdgeName, GraphName, TypeName, VertexName};
-pub use rows::{Change, Changes, StoreKey, StoreValue, TypeSchema};
+pub use names::{EdgeName, GraphName, TypeName, VertexName, whole_graph};
+pub use refusal::{GraphFault, Refusal, Word};
+pub use rows::{Change, Changes, RowChange, StoreKey, StoreValue, TypeSchema};
 pub use schema::{Attr, Kind, Record, Schema};

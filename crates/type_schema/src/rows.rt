@@ -41,7 +41,14 @@ pub enum StoreValue {
     Record(Record),
 }
 
-/// A row afterwards: the bytes of its value, or none where the row is gone.
+/// A row afterwards: its value, or none where the row is gone.
+#[derive(Debug, Drop)]
+pub struct RowChange {
+    pub key: StoreKey,
+    pub value: Option<StoreValue>,
+}
+
+/// A row afterwards, with the bytes of its value.
 #[derive(Debug, Drop)]
 pub struct Change {
     pub key: StoreKey,

@@ -1,7 +1,7 @@
 use Rattle.std.proofs.Common.{◌≡◌, ℕ, zero, suc, ◌<◌, List, [], ◌∷◌, length, get_or, take, drop, Some, None, refl, arith, eq-eqb}
 use Rattle.std.proofs.lemmas.Bool.{ne_eqb}
-use Rattle.graph_changes.specs.Reading.{cut}
-use Rattle.graph_changes.proofs.keys.cut.Goals as goal
+use Rattle.type_schema.specs.Names.{cut}
+use Rattle.type_schema.proofs.names.cut.Goals as goal
 
 cut_at : (mark : ℕ) (bytes : List ℕ) (at : ℕ) → at < length bytes → ((k : ℕ) → k < at → get_or bytes k 0 ≡ mark → ⊥) → get_or bytes at 0 ≡ mark → cut mark bytes ≡ Some (take at bytes, drop 1 (drop at bytes))
 unfolding cut
