@@ -1,9 +1,21 @@
-//! The graph as plain lists.
+//! The graph as plain ordered maps.
 //!
-//! Contracts see `Plain` as the graph of the definitions, the ordered list of its names; that the names are in order
-//! and stand once is the model's invariant. The layer knows no stamps, sessions or texts of requests.
+//! Contracts see `Plain` as the graph of the definitions, five ordered lists and the next number. A request is tried out
+//! on the graph itself; where an operation is refused, or memory is wanting, what was changed goes back. The layer knows
+//! no stamps, sessions or texts of requests.
 #![tactic(auto)]
 
+mod acting;
+mod changing;
+mod comparing;
+mod deciding;
+mod draft;
+mod effects;
+mod finding;
+mod places;
 mod plain;
+mod rows;
+#[cfg(test)]
+mod tests;
 
 pub use plain::Plain;

@@ -1,5 +1,5 @@
 -- What operations mean over a graph: the graph afterwards with the changes, or the refusal.
-use Rattle.std.specs.Prelude.{ℕ, ◌+◌, List, [], ◌∷◌, ◌++◌, length, map, filter, Bool, not, ◌||◌, nat_eq, nat_lt, Option, Some, None, is_some, Result, Ok, Err, bytes_eq, sum_by}
+use Rattle.std.specs.Prelude.{ℕ, ◌+◌, List, [], ◌∷◌, ◌++◌, length, map, filter, Bool, not, ◌||◌, nat_eq, nat_le, nat_lt, Option, Some, None, is_some, Result, Ok, Err, bytes_eq, sum_by}
 use Rattle.std.specs.Ordering.{is_eq}
 use Rattle.a1_base.specs.declared.limits.TheConstants.{CHANGE_LIMIT, CHANGE_BYTES_LIMIT, GRAPH_NUMBER_LIMIT}
 use Rattle.a1_base.specs.Maps.{with_entry, without}
@@ -121,7 +121,7 @@ decided g (op.CreateGraph n) =
     unless (is_system n) (refused word.System)
     (need (tenant_at g n.tenant) (refused word.NoTenant) (λ u.
     unless (is_some (number_at g n)) (refused word.GraphTaken)
-    (unless (nat_eq g.next GRAPH_NUMBER_LIMIT) (refused word.GraphsFull) (Ok (act.AddGraph n g.next)))))
+    (unless (nat_le GRAPH_NUMBER_LIMIT g.next) (refused word.GraphsFull) (Ok (act.AddGraph n g.next)))))
 decided g (op.DropGraph n) =
     unless (is_system n) (refused word.System) (passing (graph_number g n) (λ number. Ok (act.DropGraph n number)))
 decided g (op.CreateType n name schema) =
@@ -197,7 +197,7 @@ changes g (act.DropEdge e) = gone_at (key.Edge e) ∷ []
 -- ---- a request's operations, one behind the other
 
 -- a graph with the changes that led to it
-pub record Step : Type 0 where
+pub record Reached : Type 0 where
   pub graph : Graph
   pub changes : List RowChange
 
@@ -205,7 +205,7 @@ pub record Step : Type 0 where
 abbrev pub is_large : List RowChange → Bool
 is_large changes = nat_lt CHANGE_LIMIT (length changes) || nat_lt CHANGE_BYTES_LIMIT (sum_by item_size changes)
 
-unfoldable pub effect_behind : Graph → List RowChange → List Op → Result Step Refusal
+unfoldable pub effect_behind : Graph → List RowChange → List Op → Result Reached Refusal
 effect_behind g before [] = Ok (record { graph = g; changes = before })
 effect_behind g before (o ∷ ops) =
     passing (decided g o) (λ a.
@@ -213,5 +213,5 @@ effect_behind g before (o ∷ ops) =
     (effect_behind (after g a) (before ++ changes g a) ops))
 
 -- the graph after all operations with every change, or the first refusal
-abbrev pub effect : Graph → List Op → Result Step Refusal
+abbrev pub effect : Graph → List Op → Result Reached Refusal
 effect g ops = effect_behind g [] ops
