@@ -1,7 +1,7 @@
 -- What the table of endings gives, for all commands at once.
 use Rattle.std.proofs.Common.{◌≡◌, ℕ, List, [], Some, sym, subst, arith}
 use Rattle.std.specs.List.{IsDistinct}
-use Rattle.request_reader.specs.Graph.{Graph}
+use Rattle.type_schema.specs.Graph.{Graph}
 use Rattle.answer_text.specs.Legal.{IsLegal}
 use Rattle.run_text.specs.Run.{empty_run}
 use Rattle.run_text.specs.declared.run.Run.{Run}

@@ -1,7 +1,7 @@
 -- The command `run`: what it serves of a script.
 use Rattle.std.specs.Prelude.{◌≡◌, ℕ, List, [], map, Option, Err, IsOk, IfSome}
 use Rattle.a1_base.specs.declared.limits.TheConstants.{OPENING_STAMP}
-use Rattle.request_reader.specs.Graph.{opening}
+use Rattle.type_schema.specs.Graph.{opening}
 use Rattle.answer_text.specs.Transcript.{text_of}
 use Rattle.answer_text.specs.Legal.{IsLegal}
 use Rattle.answer_text.specs.declared.transcript.Transcript.{Transcript}

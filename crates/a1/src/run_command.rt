@@ -1,7 +1,7 @@
 //! The command `run`: a script of requests, and the transcript of its sessions.
 ghost use Rattle.std.specs.Prelude.{◌≡◌, ◌≤◌, List, [], ◌∷◌, Ok, Some, length, IfOk, IfErr, IfSome, None};
 ghost use Rattle.a1_base.specs.declared.limits.TheConstants.{SCRIPT_LIMIT};
-ghost use Rattle.request_reader.specs.Graph.{opening};
+ghost use Rattle.type_schema.specs.Graph.{opening};
 ghost use Rattle.answer_text.specs.Transcript.{text_of};
 ghost use Rattle.answer_text.specs.Legal.{IsLegal};
 ghost use Rattle.run_text.specs.Script.{script_of, request_count, asked_in};

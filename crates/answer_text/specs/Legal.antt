@@ -1,12 +1,13 @@
 -- When a transcript is a legal history of the graph.
 use Rattle.std.specs.Prelude.{◌≡◌, ℕ, ◌-◌, ◌<◌, ◌≤◌, List, Contains, nat_eq, IsOk, Result, Ok, Err, ⊤}
 use Rattle.std.specs.List.{AllByRecursion, IsDistinct}
-use Rattle.request_reader.specs.Graph.{Graph}
-use Rattle.request_reader.specs.Effect.{effect, answer}
+use Rattle.type_schema.specs.Graph.{Graph}
+use Rattle.request_reader.specs.Operations.{effect}
+use Rattle.request_reader.specs.Answers.{answer}
 use Rattle.request_reader.specs.declared.answer.Answer.TheVariants as answer
 use Rattle.request_reader.specs.declared.request.BadWord.{BadWord}
 use Rattle.request_reader.specs.declared.request.Request.{Request}
-use Rattle.request_reader.specs.declared.request.Request.TheVariants.{Put, Ask}
+use Rattle.request_reader.specs.declared.request.Request.TheVariants.{Do, Name}
 use Rattle.answer_text.specs.Transcript.{lines_of, asked, graph_at, ok_stamps, IsLineAt, IsTold}
 use Rattle.answer_text.specs.declared.reply.Reply.{Reply}
 use Rattle.answer_text.specs.declared.reply.Reply.TheVariants as reply
@@ -27,9 +28,9 @@ ComesAfter base told reply.Memory = ⊤
 
 -- the replies that a request may have, over the graph at each stamp; no other is one
 abbrev pub IsReplyTo : (ℕ → Graph) → Result Request BadWord → Reply → Type 0
-IsReplyTo graph (Ok (Put name)) (reply.Ok stamp) = IsOk (effect (graph (stamp - 1)) name)
-IsReplyTo graph (Ok (Put name)) (reply.Refused at refusal) = effect (graph at) name ≡ Err refusal
-IsReplyTo graph (Ok (Ask name)) (reply.Rows at rows) = answer (graph at) name ≡ answer.Rows rows
+IsReplyTo graph (Ok (Do ops)) (reply.Ok stamp) = IsOk (effect (graph (stamp - 1)) ops)
+IsReplyTo graph (Ok (Do ops)) (reply.Refused at refusal) = effect (graph at) ops ≡ Err refusal
+IsReplyTo graph (Ok (Name name)) (reply.Rows at rows) = answer (graph at) name ≡ answer.Rows rows
 IsReplyTo graph (Err word) (reply.Bad printed) = printed ≡ word
 IsReplyTo graph request reply.Memory = ⊤
 IsReplyTo graph request other = ⊥

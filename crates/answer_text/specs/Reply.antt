@@ -8,10 +8,11 @@ use Rattle.serde_json.specs.Written.{compact_text}
 use Rattle.a1_json.specs.Written.{put_all}
 use Rattle.a1_value.specs.declared.value.Value.{Value}
 use Rattle.a1_value.specs.declared.value.Value.TheVariants.{Int, Text, Bytes}
-use Rattle.request_reader.specs.declared.refusal.Word.{Word}
-use Rattle.request_reader.specs.declared.refusal.Word.TheVariants.{KeyTaken}
+use Rattle.type_schema.specs.declared.refusal.Word.{Word}
+use Rattle.type_schema.specs.declared.refusal.Word.TheVariants as word
+use Rattle.type_schema.specs.declared.refusal.Refusal.{Refusal}
 use Rattle.request_reader.specs.declared.request.BadWord.{BadWord}
-use Rattle.request_reader.specs.declared.request.BadWord.TheVariants.{NotBuilt}
+use Rattle.request_reader.specs.declared.request.BadWord.TheVariants as bad
 use Rattle.request_reader.specs.declared.answer.Row.{Row}
 use Rattle.answer_text.specs.declared.reply.Reply.{Reply}
 use Rattle.answer_text.specs.declared.reply.Reply.TheVariants.{Ok, Rows, Refused, Bad, Memory}
@@ -37,10 +38,34 @@ printed Memory = None
 -- ---- text
 
 abbrev pub word_text : Word → List ℕ
-word_text KeyTaken = codes "key_taken"
+word_text word.System = codes "system"
+word_text word.NoTenant = codes "no_tenant"
+word_text word.TenantTaken = codes "tenant_taken"
+word_text word.NoGraph = codes "no_graph"
+word_text word.GraphTaken = codes "graph_taken"
+word_text word.GraphsFull = codes "graphs_full"
+word_text word.NoType = codes "no_type"
+word_text word.TypeTaken = codes "type_taken"
+word_text word.Missing = codes "missing"
+word_text word.Unknown = codes "unknown"
+word_text word.Kind = codes "kind"
+word_text word.Long = codes "long"
+word_text word.RecordLong = codes "record_long"
+word_text word.NoVertex = codes "no_vertex"
+word_text word.KeyTaken = codes "key_taken"
+word_text word.NoEdge = codes "no_edge"
+word_text word.EdgeTaken = codes "edge_taken"
+word_text word.NoAttr = codes "no_attr"
+word_text word.Overflow = codes "overflow"
+word_text word.Large = codes "large"
 
 abbrev pub bad_text : BadWord → List ℕ
-bad_text NotBuilt = codes "not_built"
+bad_text bad.NotJson = codes "not_json"
+bad_text bad.NotWhole = codes "not_whole"
+bad_text bad.NotBuilt = codes "not_built"
+bad_text bad.Shape = codes "shape"
+bad_text bad.Name = codes "name"
+bad_text bad.Attrs = codes "attrs"
 
 -- a value as JSON: bytes are a text of lower-case hexadecimal digits
 abbrev pub value_data : Value → Data
@@ -57,14 +82,23 @@ row_data row = object (row_members row.members)
 abbrev pub rows_data : List Row → Items
 rows_data rows = items_of (map row_data rows)
 
+-- an attribute, where the refusal has one, in front of these members
+abbrev pub with_attr : Option (List ℕ) → Members → Members
+with_attr None members = members
+with_attr (Some attr) members = member (codes "attr") (string attr) members
+
+-- a refusal at a stamp as JSON
+abbrev pub refused_data : ℕ → Refusal → Data
+refused_data at refusal =
+    object (member (codes "at") (number (unsigned at))
+    (with_attr refusal.attr (member (codes "refused") (string (word_text refusal.word)) no_members)))
+
 -- a reply as JSON
 abbrev pub reply_data : Reply → Data
 reply_data (Ok stamp) = object (member (codes "ok") (number (unsigned stamp)) no_members)
 reply_data (Rows at rows) =
     object (member (codes "at") (number (unsigned at)) (member (codes "rows") (array (rows_data rows)) no_members))
-reply_data (Refused at refusal) =
-    object (member (codes "at") (number (unsigned at))
-    (member (codes "refused") (string (word_text refusal.word)) no_members))
+reply_data (Refused at refusal) = refused_data at refusal
 reply_data (Bad word) = object (member (codes "bad") (string (bad_text word)) no_members)
 reply_data Memory = object (member (codes "memory") (boolean true) no_members)
 

@@ -1,13 +1,14 @@
 -- What a transcript says: its text, its commits, the graph at a stamp, and what each session was told.
 use Rattle.std.specs.Prelude.{◌≡◌, ℕ, ◌<◌, List, [], ◌∷◌, ◌++◌, Contains, nat_le, if◌then◌else◌, filter, slice_get, Some, Result, Ok, Err, decimal}
 use Rattle.std.specs.List.{flat_map, filter_map}
-use Rattle.request_reader.specs.Graph.{Graph}
+use Rattle.type_schema.specs.Graph.{Graph}
+use Rattle.type_schema.specs.declared.refusal.Refusal.{Refusal}
 use Rattle.request_reader.specs.Request.{request_of}
-use Rattle.request_reader.specs.Effect.{effect}
-use Rattle.request_reader.specs.declared.refusal.Refusal.{Refusal}
+use Rattle.request_reader.specs.Operations.{Reached, effect}
+use Rattle.request_reader.specs.declared.operation.Op.{Op}
 use Rattle.request_reader.specs.declared.request.BadWord.{BadWord}
 use Rattle.request_reader.specs.declared.request.Request.{Request}
-use Rattle.request_reader.specs.declared.request.Request.TheVariants.{Put}
+use Rattle.request_reader.specs.declared.request.Request.TheVariants.{Do}
 use Rattle.answer_text.specs.Reply.{reply_text, ok_stamp, printed}
 use Rattle.answer_text.specs.declared.reply.Reply.{Reply}
 use Rattle.answer_text.specs.declared.reply.Reply.TheVariants as reply
@@ -44,13 +45,13 @@ asked line = request_of line.request
 
 -- ---- commits
 
--- a put that was answered as committed
+-- operations that were answered as committed
 pub record Commit : Type 0 where
   pub stamp : ℕ
-  pub name : List ℕ
+  pub operations : List Op
 
 abbrev pub commit_in : Result Request BadWord → Reply → List Commit
-commit_in (Ok (Put name)) (reply.Ok stamp) = record { stamp = stamp; name = name } ∷ []
+commit_in (Ok (Do ops)) (reply.Ok stamp) = record { stamp = stamp; operations = ops } ∷ []
 commit_in request answer = []
 
 abbrev pub commit_of : Line → List Commit
@@ -71,14 +72,14 @@ unfoldable pub commits_up_to : List Line → ℕ → List Commit
 commits_up_to lines s = by_stamp (filter (λ c. nat_le c.stamp s) (flat_map commit_of lines))
 
 -- a commit whose effect is a refusal leaves the graph as it was
-abbrev pub kept : Graph → Result Graph Refusal → Graph
-kept graph (Ok after) = after
+abbrev pub kept : Graph → Result Reached Refusal → Graph
+kept graph (Ok reached) = reached.graph
 kept graph (Err refusal) = graph
 
 -- the graph after these commits, one after another
 abbrev pub replayed : Graph → List Commit → Graph
 replayed graph [] = graph
-replayed graph (c ∷ cs) = replayed (kept graph (effect graph c.name)) cs
+replayed graph (c ∷ cs) = replayed (kept graph (effect graph c.operations)) cs
 
 -- the graph at a stamp: after just the commits of stamps at most s, from the base graph on
 unfoldable pub graph_at : Graph → List Line → ℕ → Graph

@@ -2,15 +2,56 @@
 ghost use Rattle.std.specs.Prelude.{◌≡◌, IfOk};
 ghost use Rattle.serde_json.specs.Data.{array, object};
 ghost use Rattle.serde_json.specs.View.{view, members_view};
-ghost use Rattle.answer_text.specs.Reply.{value_data, row_members, row_data, rows_data, reply_data, reply_text};
+ghost use Rattle.answer_text.specs.Reply.{word_text, bad_text, value_data, row_members, row_data, rows_data, refused_data, reply_data, reply_text};
 
 use crate::Reply;
 use a1_base::{Bin, Memory, Txt};
 use a1_json::put_member;
 use a1_value::Value;
-use request_reader::{BadWord, Row, Word};
+use request_reader::{BadWord, Row};
 use serde_json::{Map, Value as Json, json};
 use std::alloc::{AllocError, Global};
+use type_schema::{Refusal, Word};
+
+fn word_text(word: Word) -> &'static str
+    ensures { result.now ≡ word_text word }
+{
+    match word {
+        Word::System => "system",
+        Word::NoTenant => "no_tenant",
+        Word::TenantTaken => "tenant_taken",
+        Word::NoGraph => "no_graph",
+        Word::GraphTaken => "graph_taken",
+        Word::GraphsFull => "graphs_full",
+        Word::NoType => "no_type",
+        Word::TypeTaken => "type_taken",
+        Word::Missing => "missing",
+        Word::Unknown => "unknown",
+        Word::Kind => "kind",
+        Word::Long => "long",
+        Word::RecordLong => "record_long",
+        Word::NoVertex => "no_vertex",
+        Word::KeyTaken => "key_taken",
+        Word::NoEdge => "no_edge",
+        Word::EdgeTaken => "edge_taken",
+        Word::NoAttr => "no_attr",
+        Word::Overflow => "overflow",
+        Word::Large => "large",
+    }
+}
+
+fn bad_text(word: BadWord) -> &'static str
+    ensures { result.now ≡ bad_text word }
+{
+    match word {
+        BadWord::NotJson => "not_json",
+        BadWord::NotWhole => "not_whole",
+        BadWord::NotBuilt => "not_built",
+        BadWord::Shape => "shape",
+        BadWord::Name => "name",
+        BadWord::Attrs => "attrs",
+    }
+}
 
 // A value: a number, or a text, with bytes in lower-case hexadecimal.
 fn value_json(alloc: Global, value: &Value) -> Result<Json, AllocError>
@@ -49,6 +90,20 @@ fn rows_json(alloc: Global, rows: &[Row]) -> Result<Json, AllocError>
     Ok(Json::Array(list))
 }
 
+// A refusal at a stamp, as JSON.
+fn refused_json(alloc: Global, at: u64, refusal: &Refusal) -> Result<Json, AllocError>
+    ensures { IfOk result (λ v. view v ≡ refused_data at refusal.now) }
+{
+    let word = word_text(refusal.word);
+    match &refusal.attr {
+        None => json!(in alloc; {"at": at, "refused": word}),
+        Some(attr) => {
+            let attr = attr.as_text();
+            json!(in alloc; {"at": at, "attr": attr, "refused": word})
+        }
+    }
+}
+
 // A reply, as JSON.
 fn reply_json(alloc: Global, reply: &Reply) -> Result<Json, AllocError>
     ensures { IfOk result (λ v. view v ≡ reply_data reply.now) }
@@ -59,12 +114,11 @@ fn reply_json(alloc: Global, reply: &Reply) -> Result<Json, AllocError>
             let rows = rows_json(alloc, rows.as_slice())?;
             json!(in alloc; {"at": *at, "rows": &rows})
         }
-        Reply::Refused { at, refusal } => match refusal.word {
-            Word::KeyTaken => json!(in alloc; {"at": *at, "refused": "key_taken"}),
-        },
-        Reply::Bad { word } => match word {
-            BadWord::NotBuilt => json!(in alloc; {"bad": "not_built"}),
-        },
+        Reply::Refused { at, refusal } => refused_json(alloc, *at, refusal),
+        Reply::Bad { word } => {
+            let word = bad_text(*word);
+            json!(in alloc; {"bad": word})
+        }
         Reply::Memory => json!(in alloc; {"memory": true}),
     }
 }

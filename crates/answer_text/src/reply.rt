@@ -1,6 +1,7 @@
 //! Replies.
-use request_reader::{BadWord, Refusal, Row};
+use request_reader::{BadWord, Row};
 use sqlite_items::Items;
+use type_schema::Refusal;
 
 /// What a line is answered.
 #[derive(Drop)]

@@ -1,14 +1,9 @@
 -- The graph while a request is tried out, and the one before it.
-use Rattle.std.specs.Prelude.{◌≡◌, ℕ, ◌<◌, List, Result, Ok, Err, ⊤}
+use Rattle.std.specs.Prelude.{◌<◌, ⊤}
 use Rattle.a1_base.specs.declared.limits.TheConstants.{GRAPH_NUMBER_LIMIT}
-use Rattle.type_schema.specs.declared.refusal.Refusal.{Refusal}
-use Rattle.type_schema.specs.declared.refusal.GraphFault.{GraphFault}
-use Rattle.type_schema.specs.declared.refusal.GraphFault.TheVariants as fault
-use Rattle.type_schema.specs.declared.rows.RowChange.{RowChange}
 use Rattle.type_schema.specs.Graph.{Graph}
 use Rattle.request_reader.specs.declared.operation.Action.{Action}
 use Rattle.request_reader.specs.declared.operation.Action.TheVariants as act
-use Rattle.request_reader.specs.Operations.{Reached}
 use Rattle.graph_plain.specs.declared.draft.Draft.{Draft}
 
 abbrev pub now_of : Draft → Graph
@@ -35,9 +30,3 @@ was_of d = record {
 abbrev pub HasNext : Action → Type 0
 HasNext (act.AddGraph n number) = number < GRAPH_NUMBER_LIMIT
 HasNext other = ⊤
-
--- what a request's operations gave, and the graph that they left: as wanted, or memory was wanting
-abbrev pub Reaches : Result (List RowChange) GraphFault → Graph → Result Reached Refusal → Type 0
-Reaches (Ok changes) graph wanted = wanted ≡ Ok (record { graph = graph; changes = changes })
-Reaches (Err (fault.Refused refusal)) graph wanted = wanted ≡ Err refusal
-Reaches (Err fault.Memory) graph wanted = ⊤

@@ -1,62 +1,76 @@
-//! The graph of names.
-ghost use Rattle.std.specs.Prelude.{◌≡◌, not, IfOk, OnErr, if◌then◌else◌};
-ghost use Rattle.request_reader.specs.Graph.{opening, has_name, with_name};
+//! The plain graph.
+ghost use Rattle.std.specs.Prelude.{◌≡◌, IfOk, OnErr, option_map, result_map_both};
+ghost use Rattle.type_schema.specs.Graph.{vertex_at, opening};
+ghost use Rattle.type_schema.specs.Rows.{rows_as_changes};
+ghost use Rattle.request_reader.specs.Operations.{effect};
+ghost use Rattle.graph_plain.specs.Trying.{Reaches};
 
-use a1_base::{Memory, Txt};
+use crate::draft::Draft;
+use crate::effects::effect_of;
+use crate::rows::rows_of;
+use a1_base::Memory;
+use request_reader::Op;
 use std::alloc::Global;
-use std::collections::BTreeSet;
 use std::marker::Model;
+use type_schema::{GraphFault, Record, RowChange, VertexName};
 
-/// A graph of names, in the order of their bytes.
+/// A graph: tenants, graphs, types, vertices and edges, each in the order of their names.
 #[derive(Drop)]
 pub struct Plain {
-    names: BTreeSet<String>,
+    draft: Draft,
 }
 
 impl Model for Plain {
-    ghost use Rattle.std.specs.Prelude.{List, ℕ, map, string_bytes};
-    ghost use Rattle.request_reader.specs.Graph.{IsOrdered};
+    ghost use Rattle.type_schema.specs.Graph.{Graph};
+    ghost use Rattle.graph_plain.specs.Draft.{now_of};
 
-    ghost Value = { List (List ℕ) };
+    ghost Value = { Graph };
 
-    ghost view = { λ p. map string_bytes p.names.keys };
-
-    ghost invariant = { λ p. IsOrdered (map string_bytes p.names.keys) };
+    ghost view = { λ p. now_of p.draft };
 }
 
 impl Plain {
-    /// The graph that a database begins with: it has no name.
-    #[tactic(auto, using(crate::proofs::NameLemmas::names_ordered))]
+    /// The graph that a database begins with: the tenant `sys` with the graph `sys/names` of number 1, whose one type,
+    /// `name`, has vertices with nothing but a text as `id`. `Memory` comes for want of memory alone.
     pub fn opening(alloc: Global) -> Result<Plain, Memory>
         ensures { IfOk result (λ plain. plain ≡ opening) }
     {
-        Ok(Plain {
-            names: BTreeSet::new(alloc),
-        })
+        let draft = Draft::opening(alloc)?;
+        Ok(Plain { draft })
     }
 
-    /// Puts a name where it is not there yet, and says whether it was put. After `Memory`, which comes for want of
-    /// memory alone, the graph is as before.
-    #[tactic(auto, using(crate::proofs::NameLemmas::name_put, crate::proofs::NameLemmas::names_ordered))]
-    pub fn put_name(&mut self, alloc: Global, name: &Txt) -> Result<bool, Memory>
-        ensures answer { IfOk result (λ put. put ≡ not (has_name self.old name.now)) }
-        ensures names { IfOk result (λ put. self.new ≡ (if put then with_name self.old name.now else self.old)) }
+    /// Does the operations, one behind the other, and gives the rows that they change. After a refusal, and after
+    /// `Memory`, the graph is as before. It takes time in what the operations change and a logarithm in what the graph
+    /// has; a drop of a vertex or a graph goes over all that could belong to it.
+    pub fn effect(&mut self, alloc: Global, ops: &[Op]) -> Result<Vec<RowChange>, GraphFault>
+        ensures exact { Reaches (result_map_both (λ rows. rows.items) (λ f. f) result) self.new (effect self.old ops.now) }
         ensures err { OnErr result (self.new ≡ self.old) }
     {
-        if self.has_name(name) {
-            return Ok(false);
-        }
-        let name = String::from_str(alloc, name.as_text())?;
-        match self.names.insert(name) {
-            Ok(_) => Ok(true),
-            Err(_) => Err(Memory),
+        self.draft.keep();
+        match effect_of(alloc, &mut self.draft, ops) {
+            Ok(changes) => {
+                self.draft.keep();
+                Ok(changes)
+            }
+            Err(fault) => {
+                self.draft.back();
+                Err(fault)
+            }
         }
     }
 
-    /// Whether the name is there.
-    pub fn has_name(&self, name: &Txt) -> bool
-        ensures { result ≡ has_name self.now name.now }
+    /// The record of the vertex, where it is there.
+    pub fn vertex(&self, name: &VertexName) -> Option<&Record>
+        ensures { option_map (λ r. r.now) result ≡ vertex_at self.now name.now }
     {
-        self.names.contains(name.as_text())
+        self.draft.vertices.get(name)
+    }
+
+    /// Every tenant, graph, type, vertex and edge, and the next graph's number, as rows in the order of their keys.
+    /// `Memory` comes for want of memory alone.
+    pub fn rows(&self, alloc: Global) -> Result<Vec<RowChange>, Memory>
+        ensures { IfOk result (λ rows. rows.items ≡ rows_as_changes self.now) }
+    {
+        rows_of(alloc, &self.draft)
     }
 }

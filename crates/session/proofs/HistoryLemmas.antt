@@ -9,19 +9,21 @@ use Rattle.std.proofs.lemmas.Map.Keys.{IsDistinct-push}
 use Rattle.std.proofs.lemmas.Option.{MatchOption-at_some, IfSome_then, slice_get_within, get_or_from_slice_get}
 use Rattle.std.proofs.lemmas.Grind.{flat_map-append}
 use Rattle.std.proofs.lemmas.Bool.Decides.{nat_tests}
-use Rattle.request_reader.specs.Graph.{Graph}
-use Rattle.request_reader.specs.Effect.{effect, answer}
+use Rattle.type_schema.specs.declared.refusal.Refusal.{Refusal}
+use Rattle.type_schema.specs.Graph.{Graph}
+use Rattle.request_reader.specs.Operations.{Reached, effect}
+use Rattle.request_reader.specs.Answers.{answer}
 use Rattle.request_reader.specs.declared.answer.Answer.TheVariants as answer
 use Rattle.request_reader.specs.declared.request.BadWord.{BadWord}
 use Rattle.request_reader.specs.declared.request.Request.{Request}
-use Rattle.request_reader.specs.declared.request.Request.TheVariants.{Put, Ask}
+use Rattle.request_reader.specs.declared.request.Request.TheVariants.{Do, Name}
 use Rattle.answer_text.specs.Reply.{ok_stamp, printed}
 use Rattle.answer_text.specs.Transcript.{asked, Commit, commit_in, commit_of, placed, by_stamp, commits_up_to, kept, replayed, graph_at, ok_stamps}
 use Rattle.answer_text.specs.Legal.{ComesAfter, IsReplyTo}
 use Rattle.answer_text.specs.declared.reply.Reply.{Reply}
 use Rattle.answer_text.specs.declared.reply.Reply.TheVariants as reply
 use Rattle.answer_text.specs.declared.transcript.Line.{Line}
-use Rattle.session.specs.Serving.{Step, Stands, IsSame, IsPrintedUpTo, IsPrintedBefore}
+use Rattle.session.specs.Serving.{Step, Stands, IsReached, IsSame, IsPrintedUpTo, IsPrintedBefore}
 
 -- ---- commits by stamp
 
@@ -41,7 +43,7 @@ by_stamp_last (c ∷ cs) d h = ap (placed c) (by_stamp_last cs d h.1) ∙ placed
 
 replayed_last : (graph : Graph) (cs : List Commit) (d : Commit) → replayed graph (cs ++ d ∷ []) ≡ replayed (replayed graph cs) (d ∷ [])
 replayed_last graph [] d = refl
-replayed_last graph (c ∷ cs) d = replayed_last (kept graph (effect graph c.name)) cs d
+replayed_last graph (c ∷ cs) d = replayed_last (kept graph (effect graph c.operations)) cs d
 
 -- at most one commit, behind all others
 replayed_more : (start : Graph) (cs ds : List Commit) (clock : ℕ) → All (IsUpTo clock) cs → All (IsAbove clock) ds → length ds ≤ 1
@@ -64,7 +66,7 @@ none_up_to [] s h = refl
 none_up_to (c ∷ cs) s h = rw (none_up_to cs s h.1) (grind (arith, nat_tests, h.0))
 
 commit_low : (clock : ℕ) (r : Result Request BadWord) (p : Reply) → IsPrintedUpTo clock p → All (IsUpTo clock) (commit_in r p)
-commit_low clock (Ok (Put name)) (reply.Ok stamp) h = All-push (IsUpTo clock) [] _ (All-nil _) h
+commit_low clock (Ok (Do ops)) (reply.Ok stamp) h = All-push (IsUpTo clock) [] _ (All-nil _) h
 commit_low clock r p h = All-nil _
 
 commits_low : (clock : ℕ) (lines : List Line) → All (λ line. IsPrintedUpTo clock line.reply) lines → All (IsUpTo clock) (flat_map commit_of lines)
@@ -86,6 +88,14 @@ record Adds (base : ℕ) (graph : Graph) (clock : ℕ) (r : Result Request BadWo
   comes : ComesAfter base (λ s. s ≤ clock) p
   right : (graphs : ℕ → Graph) → graphs clock ≡ graph → IsReplyTo graphs r p
 
+reached_kept : (graph after : Graph) (r : Result Reached Refusal) → IsReached r after → kept graph r ≡ after
+reached_kept graph after (Ok reached) h = h
+reached_kept graph after (Err refusal) h = absurd h
+
+reached_ok : (r : Result Reached Refusal) (after : Graph) → IsReached r after → IsOk r
+reached_ok (Ok reached) after h = tt
+reached_ok (Err refusal) after h = absurd h
+
 module _ (base : ℕ) (graph : Graph) (clock : ℕ) (after : Graph) (later : ℕ) where
   -- one that commits nothing
   still : (r : Result Request BadWord) (p : Reply) → IsSame graph clock after later → commit_in r p ≡ [] → IsPrintedUpTo clock p → ok_stamp p ≡ None
@@ -103,22 +113,22 @@ module _ (base : ℕ) (graph : Graph) (clock : ℕ) (after : Graph) (later : ℕ
   }
 
   adds : (r : Result Request BadWord) (p : Reply) → base ≤ clock → Step graph clock r p after later → Adds base graph clock r p after later
-  adds (Ok (Put name)) (reply.Ok stamp) low h = record {
+  adds (Ok (Do ops)) (reply.Ok stamp) low h = record {
     rises = omega arith;
     above = All-push (IsAbove clock) [] _ (All-nil _) (omega arith);
     few = omega arith;
-    replays = ap (kept graph) h.0;
+    replays = reached_kept graph after (effect graph ops) h.0;
     up_to = omega arith;
     stamp = omega arith;
     within = (omega arith, omega arith);
     comes = λ s q. omega arith;
-    right = λ graphs e. let down : stamp - 1 ≡ clock = omega arith in rw (down, e, h.0) refl;
+    right = λ graphs e. let down : stamp - 1 ≡ clock = omega arith in rw (down, e) (reached_ok (effect graph ops) after h.0);
   }
-  adds (Ok (Put name)) (reply.Refused at refusal) low h = still _ _ h.2 refl (omega arith) refl (omega arith, λ s q. omega arith) (λ graphs e. rw (h.1, e) h.0)
-  adds (Ok (Ask name)) (reply.Rows at rows) low h = still _ _ h.2 refl (omega arith) refl (omega arith, λ s q. omega arith) (λ graphs e. rw (h.1, e) h.0)
+  adds (Ok (Do ops)) (reply.Refused at refusal) low h = still _ _ h.2 refl (omega arith) refl (omega arith, λ s q. omega arith) (λ graphs e. rw (h.1, e) h.0)
+  adds (Ok (Name name)) (reply.Rows at rows) low h = still _ _ h.2 refl (omega arith) refl (omega arith, λ s q. omega arith) (λ graphs e. rw (h.1, e) h.0)
   adds (Err word) (reply.Bad printed) low h = still _ _ h.1 refl tt refl tt (λ graphs e. h.0)
-  adds (Ok (Put name)) reply.Memory low h = still _ _ h refl tt refl tt (λ graphs e. tt)
-  adds (Ok (Ask name)) reply.Memory low h = still _ _ h refl tt refl tt (λ graphs e. tt)
+  adds (Ok (Do ops)) reply.Memory low h = still _ _ h refl tt refl tt (λ graphs e. tt)
+  adds (Ok (Name name)) reply.Memory low h = still _ _ h refl tt refl tt (λ graphs e. tt)
   adds (Err word) reply.Memory low h = still _ _ h refl tt refl tt (λ graphs e. tt)
   adds r p low h = absurd h
 
@@ -154,9 +164,9 @@ fewer base P Q f reply.Memory h = tt
 -- a reply that was right stays right where the graphs up to the last stamp stay the same
 reply_stays : (g h : ℕ → Graph) (clock : ℕ) → ((s : ℕ) → s ≤ clock → g s ≡ h s) → (r : Result Request BadWord) (p : Reply) → IsPrintedUpTo clock p
     → IsReplyTo g r p → IsReplyTo h r p
-reply_stays g h clock same (Ok (Put name)) (reply.Ok stamp) up = subst (λ x. IsOk (effect x name)) (same (stamp - 1) (omega (arith, up)))
-reply_stays g h clock same (Ok (Put name)) (reply.Refused at refusal) up = subst (λ x. effect x name ≡ Err refusal) (same at up)
-reply_stays g h clock same (Ok (Ask name)) (reply.Rows at rows) up = subst (λ x. answer x name ≡ answer.Rows rows) (same at up)
+reply_stays g h clock same (Ok (Do ops)) (reply.Ok stamp) up = subst (λ x. IsOk (effect x ops)) (same (stamp - 1) (omega (arith, up)))
+reply_stays g h clock same (Ok (Do ops)) (reply.Refused at refusal) up = subst (λ x. effect x ops ≡ Err refusal) (same at up)
+reply_stays g h clock same (Ok (Name name)) (reply.Rows at rows) up = subst (λ x. answer x name ≡ answer.Rows rows) (same at up)
 reply_stays g h clock same r p up = λ k. k
 
 -- ---- one more line
@@ -233,11 +243,11 @@ unfolding graph_at commits_up_to IsDistinct
 none_served start base = record { now = refl; low = omega arith; up_to = All-nil _; stamps_differ = tt; stamps_within = All-nil _; told_first = λ j line e. absurd cc; answered = All-nil _ }
 
 pub step_clock : (graph : Graph) (clock : ℕ) (r : Result Request BadWord) (p : Reply) (after : Graph) (later : ℕ) → Step graph clock r p after later → later ≤ clock + 1
-step_clock graph clock (Ok (Put name)) (reply.Ok stamp) after later h = omega (arith, h.2)
-step_clock graph clock (Ok (Put name)) (reply.Refused at refusal) after later h = omega (arith, h.2.1)
-step_clock graph clock (Ok (Ask name)) (reply.Rows at rows) after later h = omega (arith, h.2.1)
+step_clock graph clock (Ok (Do ops)) (reply.Ok stamp) after later h = omega (arith, h.2)
+step_clock graph clock (Ok (Do ops)) (reply.Refused at refusal) after later h = omega (arith, h.2.1)
+step_clock graph clock (Ok (Name name)) (reply.Rows at rows) after later h = omega (arith, h.2.1)
 step_clock graph clock (Err word) (reply.Bad printed) after later h = omega (arith, h.1.1)
-step_clock graph clock (Ok (Put name)) reply.Memory after later h = omega (arith, h.1)
-step_clock graph clock (Ok (Ask name)) reply.Memory after later h = omega (arith, h.1)
+step_clock graph clock (Ok (Do ops)) reply.Memory after later h = omega (arith, h.1)
+step_clock graph clock (Ok (Name name)) reply.Memory after later h = omega (arith, h.1)
 step_clock graph clock (Err word) reply.Memory after later h = omega (arith, h.1)
 step_clock graph clock r p after later h = absurd h

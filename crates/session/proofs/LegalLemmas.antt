@@ -3,7 +3,7 @@ use Rattle.std.proofs.Common.{◌≡◌, ℕ, ◌<◌, List, [], ◌∷◌, nat_
 use Rattle.std.specs.Prelude.{Contains, slice_get}
 use Rattle.std.specs.List.{AllByRecursion, IsDistinct}
 use Rattle.std.proofs.lemmas.List.Elements.{recursion_from_All}
-use Rattle.request_reader.specs.Graph.{Graph}
+use Rattle.type_schema.specs.Graph.{Graph}
 use Rattle.answer_text.specs.Transcript.{lines_of, asked, graph_at, ok_stamps, IsLineAt, IsTold, own}
 use Rattle.answer_text.specs.Legal.{IsReplyTo, IsLegal}
 use Rattle.answer_text.specs.declared.transcript.Line.{Line}

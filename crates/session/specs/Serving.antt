@@ -1,12 +1,14 @@
 -- What serving lines at a clock keeps true.
 use Rattle.std.specs.Prelude.{◌≡◌, ℕ, ◌+◌, ◌<◌, ◌≤◌, List, slice_get, nat_eq, IfSome, Some, Result, Ok, Err}
 use Rattle.std.specs.List.{All, IsDistinct}
-use Rattle.request_reader.specs.Graph.{Graph}
-use Rattle.request_reader.specs.Effect.{effect, answer}
+use Rattle.type_schema.specs.declared.refusal.Refusal.{Refusal}
+use Rattle.type_schema.specs.Graph.{Graph}
+use Rattle.request_reader.specs.Operations.{Reached, effect}
+use Rattle.request_reader.specs.Answers.{answer}
 use Rattle.request_reader.specs.declared.answer.Answer.TheVariants as answer
 use Rattle.request_reader.specs.declared.request.BadWord.{BadWord}
 use Rattle.request_reader.specs.declared.request.Request.{Request}
-use Rattle.request_reader.specs.declared.request.Request.TheVariants.{Put, Ask}
+use Rattle.request_reader.specs.declared.request.Request.TheVariants.{Do, Name}
 use Rattle.answer_text.specs.Reply.{printed}
 use Rattle.answer_text.specs.Transcript.{asked, graph_at, ok_stamps}
 use Rattle.answer_text.specs.Legal.{ComesAfter, IsReplyTo}
@@ -17,13 +19,18 @@ use Rattle.answer_text.specs.declared.transcript.Line.{Line}
 abbrev pub IsSame : Graph → ℕ → Graph → ℕ → Type 0
 IsSame graph clock after later = (after ≡ graph) × (later ≡ clock)
 
+-- the graph that was reached
+abbrev pub IsReached : Result Reached Refusal → Graph → Type 0
+IsReached (Ok reached) after = reached.graph ≡ after
+IsReached (Err refusal) after = ⊥
+
 -- one request served at a clock: its reply, and the graph and the clock behind it
 abbrev pub Step : Graph → ℕ → Result Request BadWord → Reply → Graph → ℕ → Type 0
-Step graph clock (Ok (Put name)) (reply.Ok stamp) after later =
-    (effect graph name ≡ Ok after) × (stamp ≡ clock + 1) × (later ≡ clock + 1)
-Step graph clock (Ok (Put name)) (reply.Refused at refusal) after later =
-    (effect graph name ≡ Err refusal) × (at ≡ clock) × IsSame graph clock after later
-Step graph clock (Ok (Ask name)) (reply.Rows at rows) after later =
+Step graph clock (Ok (Do ops)) (reply.Ok stamp) after later =
+    IsReached (effect graph ops) after × (stamp ≡ clock + 1) × (later ≡ clock + 1)
+Step graph clock (Ok (Do ops)) (reply.Refused at refusal) after later =
+    (effect graph ops ≡ Err refusal) × (at ≡ clock) × IsSame graph clock after later
+Step graph clock (Ok (Name name)) (reply.Rows at rows) after later =
     (answer graph name ≡ answer.Rows rows) × (at ≡ clock) × IsSame graph clock after later
 Step graph clock (Err word) (reply.Bad printed) after later = (printed ≡ word) × IsSame graph clock after later
 Step graph clock request reply.Memory after later = IsSame graph clock after later

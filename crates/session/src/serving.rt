@@ -2,7 +2,7 @@
 ghost use Rattle.std.specs.Prelude.{◌≡◌, ◌+◌, ◌<◌, ◌^◌, [], ◌∷◌, Ok, length, map, IfOk};
 ghost use Rattle.a1_base.specs.declared.limits.TheConstants.{STAMP_LIMIT};
 ghost use Rattle.request_reader.specs.Request.{request_of};
-ghost use Rattle.request_reader.specs.Effect.{row_of, rows_in};
+ghost use Rattle.request_reader.specs.Answers.{name_vertex, row_of, rows_in};
 ghost use Rattle.answer_text.specs.Legal.{IsLegal};
 ghost use Rattle.session.specs.Serving.{Step, Stands};
 
@@ -10,9 +10,21 @@ use a1_base::{Bin, Memory, Txt};
 use a1_value::Value;
 use answer_text::{Line, Reply, Transcript};
 use graph_plain::Plain;
-use request_reader::{Refusal, Request, RequestFault, Row, Word, read};
+use request_reader::{NAME_TYPE, NAMES_NUMBER, Op, Request, RequestFault, Row, read};
 use sqlite_items::Items;
 use std::alloc::Global;
+use type_schema::{GraphFault, VertexName};
+
+// The vertex of a name.
+fn name_vertex(alloc: Global, name: &Txt) -> Result<VertexName, Memory>
+    ensures { IfOk result (λ vertex. vertex ≡ name_vertex name.now) }
+{
+    Ok(VertexName {
+        graph: NAMES_NUMBER,
+        kind: Txt::from_text(alloc, NAME_TYPE)?,
+        key: Value::Text(name.copy(alloc)?),
+    })
+}
 
 // The row of a name: its whole record.
 fn row_of(alloc: Global, name: Txt) -> Result<Row, Memory>
@@ -28,29 +40,27 @@ fn rows_in(alloc: Global, plain: &Plain, name: Txt) -> Result<Items<Row>, Memory
     ensures { IfOk result (λ rows. rows ≡ rows_in plain.now name) }
 {
     let mut rows = Items::new(alloc);
-    if plain.has_name(&name) {
+    if plain.vertex(&name_vertex(alloc, &name)?).is_some() {
         rows.push(row_of(alloc, name)?)?;
     }
     Ok(rows)
 }
 
-// Puts a name at the next stamp, or refuses it at the clock.
-fn serve_put(alloc: Global, plain: &mut Plain, clock: &mut u64, name: &Txt) -> Reply
+// Does operations at the next stamp, or refuses them at the clock.
+fn serve_do(alloc: Global, plain: &mut Plain, clock: &mut u64, ops: &[Op]) -> Reply
     requires { clock.old < STAMP_LIMIT }
-    ensures { Step plain.old clock.old (Ok (Request.Put name.now)) result plain.new clock.new }
+    ensures { Step plain.old clock.old (Ok (Request.Do ops.now)) result plain.new clock.new }
 {
-    match plain.put_name(alloc, name) {
-        Err(_) => Reply::Memory,
-        Ok(true) => {
+    match plain.effect(alloc, ops) {
+        Err(GraphFault::Memory) => Reply::Memory,
+        Err(GraphFault::Refused(refusal)) => Reply::Refused {
+            at: *clock,
+            refusal,
+        },
+        Ok(_) => {
             *clock += 1;
             Reply::Ok { stamp: *clock }
         }
-        Ok(false) => Reply::Refused {
-            at: *clock,
-            refusal: Refusal {
-                word: Word::KeyTaken,
-            },
-        },
     }
 }
 
@@ -60,8 +70,8 @@ fn serve_request(alloc: Global, plain: &mut Plain, clock: &mut u64, request: Req
     ensures { Step plain.old clock.old (Ok request) result plain.new clock.new }
 {
     match request {
-        Request::Put(name) => serve_put(alloc, plain, clock, &name),
-        Request::Ask(name) => match rows_in(alloc, plain, name) {
+        Request::Do(ops) => serve_do(alloc, plain, clock, ops.as_slice()),
+        Request::Name(name) => match rows_in(alloc, plain, name) {
             Err(_) => Reply::Memory,
             Ok(rows) => Reply::Rows { at: *clock, rows },
         },
