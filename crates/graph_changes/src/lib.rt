@@ -8,6 +8,7 @@ mod fault;
 mod keys;
 mod laws;
 mod reading;
+mod sizes;
 #[cfg(test)]
 mod tests;
 mod values;
@@ -16,5 +17,6 @@ mod writing;
 pub use fault::ChangeFault;
 pub use laws::rows_read_back;
 pub use reading::{front_change, read};
+pub use sizes::room_left;
 pub use values::{decode_value, encode_value};
 pub use writing::{push_change, size, write};

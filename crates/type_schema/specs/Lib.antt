@@ -6,3 +6,4 @@ pub mod Formed
 pub mod Reading
 pub mod Graph
 pub mod Rows
+pub mod KeyLaws

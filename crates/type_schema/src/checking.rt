@@ -1,37 +1,22 @@
 //! From a request's members to a record.
-ghost use Rattle.std.specs.Prelude.{◌≡◌, [], ◌∷◌, Ok, IfOk, MatchOption, IsTrue, option_map, option_and_then};
+ghost use Rattle.std.specs.Prelude.{◌≡◌, Ok, Err, IfOk, IsTrue, option_map, option_and_then};
 ghost use Rattle.a1_value.specs.Encoding.{value_size};
-ghost use Rattle.type_schema.specs.declared.fault.SchemaFault.TheVariants as fault;
-ghost use Rattle.type_schema.specs.Schemas.{fits, are_of, behind, most, member, missing, unknown, need, unless_at, passing, value_in, value_over, made, made_over, too_long, if_short, checked, merged, Checks};
+ghost use Rattle.type_schema.specs.declared.refusal.Word.TheVariants as word;
+ghost use Rattle.type_schema.specs.Refusals.{refused_at, need, Gives};
+ghost use Rattle.type_schema.specs.Schemas.{fits, most, member, missing, unknown, value_in, made, too_long, if_short, checked, kind_of_key, key_in, key_of};
 
 use crate::form::is_attr;
 use crate::size::is_short;
-use crate::{Attr, Kind, Record, Schema, SchemaFault};
+use crate::{Attr, GraphFault, Kind, Record, Schema, Word, refuse, refuse_at};
 use a1_base::{Bin, KEY_LIMIT, TEXT_LIMIT, Txt};
 use a1_value::{Given, Value};
 use hex::FromHexError;
 use std::alloc::{AllocError, Global};
 
-fn copy(alloc: Global, text: &Txt) -> Result<Txt, AllocError>
-    ensures { IfOk result (λ t. t ≡ text.now) }
-{
-    Txt::from_text(alloc, text.as_text())
-}
-
-fn copy_value(alloc: Global, value: &Value) -> Result<Value, AllocError>
-    ensures { IfOk result (λ v. v ≡ value.now) }
-{
-    match value {
-        Value::Int(n) => Ok(Value::Int(*n)),
-        Value::Text(text) => Ok(Value::Text(copy(alloc, text)?)),
-        Value::Bytes(bytes) => Ok(Value::Bytes(Bin::from_slice(alloc, bytes.as_slice())?)),
-    }
-}
-
 // ---- members and attributes
 
-// What the member of this name gives.
-fn member<'a>(members: &'a [(Txt, Given)], name: &Txt) -> Option<&'a Given>
+/// What the member of this name gives.
+pub fn member<'a>(members: &'a [(Txt, Given)], name: &Txt) -> Option<&'a Given>
     ensures { option_map (λ g. g.now) result ≡ member name.now members.now }
 {
     for member in members {
@@ -54,8 +39,8 @@ fn missing<'a>(attrs: &'a [Attr], members: &[(Txt, Given)]) -> Option<&'a Txt>
     None
 }
 
-// The first member that the attributes lack.
-fn unknown<'a>(attrs: &[Attr], members: &'a [(Txt, Given)]) -> Option<&'a Txt>
+/// The first member that the attributes lack.
+pub fn unknown<'a>(attrs: &[Attr], members: &'a [(Txt, Given)]) -> Option<&'a Txt>
     ensures { option_map (λ n. n.now) result ≡ unknown attrs.now members.now }
 {
     for member in members {
@@ -68,95 +53,62 @@ fn unknown<'a>(attrs: &[Attr], members: &'a [(Txt, Given)]) -> Option<&'a Txt>
 
 // ---- values
 
-// The value of an attribute that a member gives.
-#[tactic(auto, unfolding(crate::specs::Schemas::need))]
-fn value_in(alloc: Global, attr: &Attr, given: &Given) -> Result<Value, SchemaFault>
-    ensures { Checks result (need (value_in attr.now.kind given.now) (fault.Kind attr.now.name) Ok) }
+// The value that hexadecimal digits spell.
+fn bytes_in(alloc: Global, text: &Txt) -> Result<Option<Value>, AllocError>
+    ensures { IfOk result (λ v. v ≡ value_in Kind.Bytes (Given.Text text.now)) }
 {
-    match (attr.kind, given) {
-        (Kind::Int, Given::Int(n)) => Ok(Value::Int(*n)),
-        (Kind::Text, Given::Text(text)) => Ok(Value::Text(copy(alloc, text)?)),
-        (Kind::Bytes, Given::Text(text)) => match hex::decode(alloc, text.as_text()) {
-            Ok(bytes) => Ok(Value::Bytes(Bin::from_vec(bytes))),
-            Err(FromHexError::OutOfMemory) => Err(SchemaFault::Memory),
-            Err(_) => Err(SchemaFault::Kind(copy(alloc, &attr.name)?)),
-        },
-        _ => Err(SchemaFault::Kind(copy(alloc, &attr.name)?)),
+    match hex::decode(alloc, text.as_text()) {
+        Ok(bytes) => Ok(Some(Value::Bytes(Bin::from_vec(bytes)))),
+        Err(FromHexError::OutOfMemory) => Err(AllocError),
+        Err(_) => Ok(None),
+    }
+}
+
+// The value of this kind that is given.
+fn value_in(alloc: Global, kind: Kind, given: &Given) -> Result<Option<Value>, AllocError>
+    ensures { IfOk result (λ v. v ≡ value_in kind given.now) }
+{
+    match (kind, given) {
+        (Kind::Int, Given::Int(n)) => Ok(Some(Value::Int(*n))),
+        (Kind::Text, Given::Text(text)) => Ok(Some(Value::Text(text.copy(alloc)?))),
+        (Kind::Bytes, Given::Text(text)) => bytes_in(alloc, text),
+        _ => Ok(None),
+    }
+}
+
+/// The value of an attribute that is given.
+#[tactic(auto, unfolding(crate::specs::Refusals::need))]
+pub fn value_given(alloc: Global, attr: &Attr, given: &Given) -> Result<Value, GraphFault>
+    ensures { Gives result
+        (need (value_in attr.now.kind given.now) (refused_at word.Kind attr.now.name) Ok) }
+{
+    match value_in(alloc, attr.kind, given)? {
+        Some(value) => Ok(value),
+        None => refuse_at(alloc, Word::Kind, &attr.name),
     }
 }
 
 // The value of an attribute that the members give.
-#[tactic(auto, unfolding(crate::specs::Schemas::need))]
-fn value_at(alloc: Global, attr: &Attr, members: &[(Txt, Given)]) -> Result<Value, SchemaFault>
-    ensures { Checks result
-        (need (option_and_then (value_in attr.now.kind) (member attr.now.name members.now)) (fault.Kind attr.now.name) Ok) }
+#[tactic(auto, unfolding(crate::specs::Refusals::need))]
+fn value_at(alloc: Global, attr: &Attr, members: &[(Txt, Given)]) -> Result<Value, GraphFault>
+    ensures { Gives result
+        (need (option_and_then (value_in attr.now.kind) (member attr.now.name members.now))
+        (refused_at word.Kind attr.now.name) Ok) }
 {
     match member(members, &attr.name) {
-        Some(given) => value_in(alloc, attr, given),
-        None => Err(SchemaFault::Kind(copy(alloc, &attr.name)?)),
-    }
-}
-
-// The value of an attribute that the members give, or else the old one.
-#[tactic(auto, unfolding(crate::specs::Schemas::need))]
-fn value_over(
-    alloc: Global,
-    attr: &Attr,
-    old: &Value,
-    members: &[(Txt, Given)],
-) -> Result<Value, SchemaFault>
-    ensures { Checks result
-        (need (value_over attr.now.kind old.now (member attr.now.name members.now)) (fault.Kind attr.now.name) Ok) }
-{
-    match member(members, &attr.name) {
-        Some(given) => value_in(alloc, attr, given),
-        None => Ok(copy_value(alloc, old)?),
+        Some(given) => value_given(alloc, attr, given),
+        None => refuse_at(alloc, Word::Kind, &attr.name),
     }
 }
 
 // The members' values.
 #[tactic(auto, using(crate::proofs::CheckLemmas::making))]
-fn made(alloc: Global, attrs: &[Attr], members: &[(Txt, Given)]) -> Result<Record, SchemaFault>
-    ensures { Checks result (made attrs.now members.now) }
+fn made(alloc: Global, attrs: &[Attr], members: &[(Txt, Given)]) -> Result<Record, GraphFault>
+    ensures { Gives result (made attrs.now members.now) }
 {
     let mut values = Vec::new(alloc);
     for attr in attrs {
         values.push(value_at(alloc, attr, members)?)?;
-    }
-    Ok(Record { values })
-}
-
-// The first of a list, and those behind it.
-fn first<T>(list: &[T]) -> Option<(&T, &[T])>
-    ensures { MatchOption result (list.now ≡ []) (λ x. list.now ≡ x.0.now ∷ x.1.now) }
-{
-    match list {
-        [first, rest @ ..] => Some((first, rest)),
-        [] => None,
-    }
-}
-
-// The key, and the old values with those of the members in their place.
-#[tactic(auto, using(crate::proofs::CheckLemmas::making_over))]
-fn made_over(
-    alloc: Global,
-    key: &Value,
-    attrs: &[Attr],
-    old: &[Value],
-    members: &[(Txt, Given)],
-) -> Result<Record, SchemaFault>
-    requires { IsTrue (are_of attrs.now old.now) }
-    ensures { Checks result (behind key.now (made_over attrs.now old.now members.now)) }
-{
-    let mut values = Vec::new(alloc);
-    values.push(copy_value(alloc, key)?)?;
-    let mut rest = old;
-    for attr in attrs {
-        let Some((value, after)) = first(rest) else {
-            unreachable!()
-        };
-        values.push(value_over(alloc, attr, value, members)?)?;
-        rest = after;
     }
     Ok(Record { values })
 }
@@ -202,119 +154,79 @@ fn too_long<'a>(attrs: &'a [Attr], values: &[Value]) -> Option<&'a Txt>
     None
 }
 
-// The values, where none is too long and they are not too long together.
-#[tactic(auto, unfolding(crate::specs::Schemas::unless, crate::specs::Schemas::unless_at), using(crate::proofs::CheckLemmas::over))]
-fn if_short(alloc: Global, attrs: &[Attr], values: Record) -> Result<Record, SchemaFault>
-    ensures { Checks result (if_short attrs.now values) }
+/// The values, where none is too long and they are not too long together.
+#[tactic(auto, unfolding(crate::specs::Refusals::unless, crate::specs::Refusals::unless_at), using(crate::proofs::CheckLemmas::over))]
+pub fn if_short(alloc: Global, attrs: &[Attr], values: Record) -> Result<Record, GraphFault>
+    ensures { Gives result (if_short attrs.now values) }
 {
     if let Some(name) = too_long(attrs, &values.values) {
-        return Err(SchemaFault::Long(copy(alloc, name)?));
+        return refuse_at(alloc, Word::Long, name);
     }
     if !is_short(&values.values) {
-        return Err(SchemaFault::RecordLong);
+        return refuse(Word::RecordLong);
     }
     Ok(values)
 }
 
 // ---- records
 
-#[tactic(auto, unfolding(crate::specs::Schemas::checked, crate::specs::Schemas::unless_at, crate::specs::Schemas::passing))]
-fn checked(alloc: Global, attrs: &[Attr], members: &[(Txt, Given)]) -> Result<Record, SchemaFault>
-    ensures { Checks result (checked attrs.now members.now) }
+#[tactic(auto, unfolding(crate::specs::Schemas::checked, crate::specs::Refusals::unless_at, crate::specs::Refusals::passing))]
+fn checked(alloc: Global, attrs: &[Attr], members: &[(Txt, Given)]) -> Result<Record, GraphFault>
+    ensures { Gives result (checked attrs.now members.now) }
 {
     if let Some(name) = missing(attrs, members) {
-        return Err(SchemaFault::Missing(copy(alloc, name)?));
+        return refuse_at(alloc, Word::Missing, name);
     }
     if let Some(name) = unknown(attrs, members) {
-        return Err(SchemaFault::Unknown(copy(alloc, name)?));
+        return refuse_at(alloc, Word::Unknown, name);
     }
     let values = made(alloc, attrs, members)?;
     if_short(alloc, attrs, values)
 }
 
-/// The record that a put or a link of these members makes, which stand by name in byte order; or the first fault in the
-/// order of `SchemaFault`.
+/// The record that a put or a link of these members makes, which stand by name in byte order. The first fault is told, in
+/// this order: an attribute is `Missing`; a member is `Unknown`; a value is not of its `Kind`; one is too `Long`; the
+/// record is (`RecordLong`). Each but the last names the first attribute, or member, that has it.
 #[tactic(auto, using(crate::proofs::CheckLemmas::check_fits))]
-pub fn check(alloc: Global, s: &Schema, members: &[(Txt, Given)]) -> Result<Record, SchemaFault>
-    ensures exact { Checks result (checked s.now members.now) }
+pub fn check(alloc: Global, s: &Schema, members: &[(Txt, Given)]) -> Result<Record, GraphFault>
+    ensures exact { Gives result (checked s.now members.now) }
     ensures fits { IfOk result (λ values. IsTrue (fits s.now values)) }
 {
     checked(alloc, &s.attrs, members)
 }
 
-// The set of these members where a type has no attributes.
-#[tactic(auto, using(crate::proofs::CheckLemmas::merged_nothing, crate::proofs::CheckLemmas::merged_none))]
-fn merged_none(
-    alloc: Global,
-    attrs: &[Attr],
-    old: &[Value],
-    members: &[(Txt, Given)],
-) -> Result<Record, SchemaFault>
-    requires fits { IsTrue (fits attrs.now old.now) }
-    requires none { attrs.now ≡ [] }
-    ensures { Checks result (merged attrs.now old.now members.now) }
+// ---- keys
+
+fn kind_of_key(attrs: &[Attr]) -> Kind
+    ensures { result ≡ kind_of_key attrs.now }
 {
-    match first(members) {
-        Some((member, _)) => Err(SchemaFault::Unknown(copy(alloc, &member.0)?)),
-        None => Ok(Record {
-            values: Vec::new(alloc),
-        }),
+    match attrs {
+        [first, ..] => first.kind,
+        [] => Kind::Int,
     }
 }
 
-// The set of these members behind the key.
-#[tactic(auto, unfolding(crate::specs::Schemas::unless_at, crate::specs::Schemas::passing))]
-fn merged_behind(
-    alloc: Global,
-    attrs: &[Attr],
-    settable: &[Attr],
-    key: &Value,
-    old: &[Value],
-    members: &[(Txt, Given)],
-) -> Result<Record, SchemaFault>
-    requires { IsTrue (are_of settable.now old.now) }
-    ensures { Checks result (unless_at (unknown settable.now members.now) fault.Unknown
-        (passing (behind key.now (made_over settable.now old.now members.now)) (if_short attrs.now))) }
+/// The key that a request names. It is refused where it is not of the first attribute's `Kind`, or has more than
+/// `KEY_LIMIT` bytes (`Long`); both speak of `id`.
+#[tactic(auto, unfolding(crate::specs::Schemas::key_in, crate::specs::Refusals::need, crate::specs::Refusals::unless))]
+pub fn key(alloc: Global, s: &Schema, given: &Given) -> Result<Value, GraphFault>
+    ensures { Gives result (key_in s.now given.now) }
 {
-    if let Some(name) = unknown(settable, members) {
-        return Err(SchemaFault::Unknown(copy(alloc, name)?));
+    let Some(value) = value_in(alloc, kind_of_key(&s.attrs), given)? else {
+        return refuse_at(alloc, Word::Kind, &Txt::from_text(alloc, "id")?);
+    };
+    if KEY_LIMIT < value_size(&value) {
+        return refuse_at(alloc, Word::Long, &Txt::from_text(alloc, "id")?);
     }
-    let values = made_over(alloc, key, settable, old, members)?;
-    if_short(alloc, attrs, values)
+    Ok(value)
 }
 
-#[tactic(auto, using(crate::proofs::CheckLemmas::rest_of, crate::proofs::CheckLemmas::has_key))]
-fn merged(
-    alloc: Global,
-    attrs: &[Attr],
-    old: &[Value],
-    members: &[(Txt, Given)],
-) -> Result<Record, SchemaFault>
-    requires { IsTrue (fits attrs.now old.now) }
-    ensures { Checks result (merged attrs.now old.now members.now) }
+/// A copy of a record's first value, which is the key of a vertex. The error is want of memory.
+pub fn key_of(alloc: Global, values: &Record) -> Result<Value, AllocError>
+    ensures { IfOk result (λ k. k ≡ key_of values.now) }
 {
-    let Some((_, settable)) = first(attrs) else {
-        return merged_none(alloc, attrs, old, members);
-    };
-    let Some((key, values)) = first(old) else {
-        unreachable!()
-    };
-    merged_behind(alloc, attrs, settable, key, values, members)
-}
-
-/// The record that a set of these members leaves, which stand by name in byte order; or the first fault. The first
-/// attribute is the key: a member of its name is `Unknown`, and its value stays. So does each that no member names:
-/// nothing is `Missing`.
-#[tactic(auto, using(crate::proofs::CheckLemmas::merge_fits))]
-pub fn merge(
-    alloc: Global,
-    s: &Schema,
-    old: &Record,
-    members: &[(Txt, Given)],
-) -> Result<Record, SchemaFault>
-    requires { IsTrue (fits s.now old.now) }
-    ensures exact { Checks result (merged s.now old.now members.now) }
-    ensures fits { IfOk result (λ values. IsTrue (fits s.now values)) }
-{
-    merged(alloc, &s.attrs, &old.values, members)
+    match values.values.as_slice() {
+        [first, ..] => first.copy(alloc),
+        [] => Ok(Value::Int(0)),
+    }
 }

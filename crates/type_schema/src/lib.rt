@@ -5,9 +5,12 @@
 #![tactic(auto)]
 
 mod checking;
+mod copies;
 mod form;
+mod key_order;
 mod laws;
 mod layout;
+mod merging;
 mod names;
 mod refusal;
 mod rows;
@@ -16,11 +19,12 @@ mod size;
 #[cfg(test)]
 mod tests;
 
-pub use checking::{check, merge};
+pub use checking::{check, key, key_of};
 pub use form::{is_type, name_of};
 pub use laws::layouts_read_back;
 pub use layout::{front_name, front_record, front_schema, push_name, push_record, push_schema};
+pub use merging::{add, merge};
 pub use names::{EdgeName, GraphName, TypeName, VertexName, whole_graph};
-pub use refusal::{GraphFault, Refusal, Word};
+pub use refusal::{GraphFault, Refusal, Word, refuse, refuse_at};
 pub use rows::{Change, Changes, RowChange, StoreKey, StoreValue, TypeSchema};
 pub use schema::{Attr, Kind, Record, Schema};

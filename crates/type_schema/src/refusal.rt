@@ -1,6 +1,8 @@
 //! Refusals.
+ghost use Rattle.type_schema.specs.Refusals.{refused, refused_at, Gives};
+
 use a1_base::Txt;
-use std::alloc::{AllocError, AllocFailed};
+use std::alloc::{AllocError, AllocFailed, Global};
 
 /// Why an operation is refused.
 #[derive(Clone, Copy, Debug, PartialEq, Eq)]
@@ -83,4 +85,19 @@ impl<T: Drop> From<AllocFailed<T>> for GraphFault {
     fn from(_: AllocFailed<T>) -> Self {
         GraphFault::Memory
     }
+}
+
+/// A refusal that speaks of no attribute.
+pub fn refuse<T>(word: Word) -> Result<T, GraphFault>
+    ensures { Gives result (Err (refused word)) }
+{
+    Err(GraphFault::Refused(Refusal { word, attr: None }))
+}
+
+/// A refusal that speaks of an attribute.
+pub fn refuse_at<T>(alloc: Global, word: Word, attr: &Txt) -> Result<T, GraphFault>
+    ensures { Gives result (Err (refused_at word attr.now)) }
+{
+    let attr = Some(attr.copy(alloc)?);
+    Err(GraphFault::Refused(Refusal { word, attr }))
 }
