@@ -1,8 +1,5 @@
 //! A request's operations, one behind the other.
 ghost use Rattle.std.specs.Prelude.{◌≡◌, ◌∷◌, [], result_map_both};
-ghost use Rattle.type_schema.specs.Refusals.{refused};
-ghost use Rattle.type_schema.specs.declared.refusal.GraphFault.TheVariants as GraphFault;
-ghost use Rattle.type_schema.specs.declared.refusal.Word.TheVariants as Word;
 ghost use Rattle.request_reader.specs.Operations.{effect};
 ghost use Rattle.graph_plain.specs.Draft.{now_of, was_of};
 ghost use Rattle.graph_plain.specs.Trying.{Appends, Steps, Reaches};
@@ -16,7 +13,7 @@ use graph_changes::room_left;
 use request_reader::Op;
 use std::alloc::Global;
 use std::marker::Model;
-use type_schema::{GraphFault, Refusal, RowChange, Word};
+use type_schema::{GraphFault, RowChange, Word, refuse};
 
 // The rows that a request changes so far: as many as it may, with room for more bytes of them.
 #[derive(Drop)]
@@ -39,15 +36,6 @@ impl Model for Changing {
         × (c.room + sum_by item_size c.rows.items ≡ CHANGE_BYTES_LIMIT) };
 }
 
-fn large() -> GraphFault
-    ensures { result ≡ GraphFault.Refused (refused Word.Large) }
-{
-    GraphFault::Refused(Refusal {
-        word: Word::Large,
-        attr: None,
-    })
-}
-
 impl Changing {
     fn new(alloc: Global) -> Changing
         ensures { result ≡ [] }
@@ -63,10 +51,10 @@ impl Changing {
         ensures { Appends result self.old (row ∷ []) self.new }
     {
         if self.rows.len() == CHANGE_LIMIT {
-            return Err(large());
+            return refuse(Word::Large);
         }
         let Some(room) = room_left(self.room, &row) else {
-            return Err(large());
+            return refuse(Word::Large);
         };
         self.rows.push(row)?;
         self.room = room;

@@ -1,7 +1,7 @@
 //! Refusals.
 ghost use Rattle.type_schema.specs.Refusals.{refused, refused_at, Gives};
 
-use a1_base::Txt;
+use a1_base::{Memory, Txt};
 use std::alloc::{AllocError, AllocFailed, Global};
 
 /// Why an operation is refused.
@@ -72,6 +72,17 @@ impl From<AllocError> for GraphFault {
     ghost from_gives = { λ _ fault. fault ≡ Memory };
 
     fn from(_: AllocError) -> Self {
+        GraphFault::Memory
+    }
+}
+
+impl From<Memory> for GraphFault {
+    ghost use Rattle.std.specs.Prelude.{◌≡◌};
+    ghost use Rattle.type_schema.specs.declared.refusal.GraphFault.TheVariants as fault;
+
+    ghost from_gives = { λ _ f. f ≡ fault.Memory };
+
+    fn from(_: Memory) -> Self {
         GraphFault::Memory
     }
 }
