@@ -3,6 +3,7 @@ ghost use Rattle.std.specs.Prelude.{◌≡◌, [], OnOk, OnErr, option_map};
 ghost use Rattle.a1_base.specs.Maps.{at, with_entry, without};
 
 use a1_base::Memory;
+use std::alloc::Global;
 use std::collections::BTreeMap;
 use std::marker::Model;
 
@@ -21,6 +22,16 @@ impl<K: Ord + Drop, V: Drop> Model for Places<K, V> {
 }
 
 impl<K: Ord + Drop, V: Drop> Places<K, V> {
+    /// Nothing.
+    pub fn new(alloc: Global) -> Places<K, V>
+        ensures now { result.now ≡ [] }
+        ensures was { result.was ≡ [] }
+    {
+        Places {
+            map: BTreeMap::new(alloc),
+        }
+    }
+
     /// What is there at the key.
     pub fn get(&self, key: &K) -> Option<&V>
         ensures { option_map (λ v. v.now) result ≡ at K.cmp key.now self.now.now }

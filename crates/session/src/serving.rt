@@ -10,10 +10,10 @@ use a1_base::{Bin, Memory, Txt};
 use a1_value::Value;
 use answer_text::{Line, Reply, Transcript};
 use graph_plain::Plain;
-use request_reader::{NAME_TYPE, NAMES_NUMBER, Op, Request, RequestFault, Row, read};
+use request_reader::{Op, Request, RequestFault, Row, read};
 use sqlite_items::Items;
 use std::alloc::Global;
-use type_schema::{GraphFault, VertexName};
+use type_schema::{GraphFault, NAME_TYPE, NAMES_NUMBER, VertexName};
 
 // The vertex of a name.
 fn name_vertex(alloc: Global, name: &Txt) -> Result<VertexName, Memory>
