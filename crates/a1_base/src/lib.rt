@@ -40,3 +40,9 @@ impl From<std::alloc::AllocError> for Memory {
         Memory
     }
 }
+
+impl<T: Drop> From<std::alloc::AllocFailed<T>> for Memory {
+    fn from(_: std::alloc::AllocFailed<T>) -> Self {
+        Memory
+    }
+}
