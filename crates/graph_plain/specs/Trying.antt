@@ -1,5 +1,5 @@
 -- What trying a request out gives.
-use Rattle.std.specs.Prelude.{◌≡◌, List, ◌∷◌, ◌++◌, true, false, Result, Ok, Err, ⊤, Unit}
+use Rattle.std.specs.Prelude.{◌≡◌, List, ◌∷◌, ◌++◌, true, false, Result, Ok, Err, ⊤}
 use Rattle.type_schema.specs.declared.refusal.Refusal.{Refusal}
 use Rattle.type_schema.specs.declared.refusal.Word.TheVariants as word
 use Rattle.type_schema.specs.declared.refusal.GraphFault.{GraphFault}

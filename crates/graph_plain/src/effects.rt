@@ -1,5 +1,6 @@
 //! A request's operations, one behind the other.
-ghost use Rattle.std.specs.Prelude.{◌≡◌, ◌∷◌, [], result_map_both};
+ghost use Rattle.std.specs.Prelude.{◌≡◌, ◌∷◌, []};
+ghost use Rattle.std.specs.Result.{result_map_both};
 ghost use Rattle.request_reader.specs.Operations.{effect};
 ghost use Rattle.graph_plain.specs.Draft.{now_of, was_of};
 ghost use Rattle.graph_plain.specs.Trying.{Appends, Steps, Reaches};
@@ -47,6 +48,7 @@ impl Changing {
     }
 
     // Takes one row more.
+    #[tactic(auto, using(crate::proofs::EffectLemmas::within, crate::proofs::EffectLemmas::too_many, crate::proofs::EffectLemmas::too_big))]
     fn push(&mut self, row: RowChange) -> Result<(), GraphFault>
         ensures { Appends result self.old (row ∷ []) self.new }
     {
@@ -65,6 +67,7 @@ impl Changing {
     fn append(&mut self, more: Vec<RowChange>) -> Result<(), GraphFault>
         ensures { Appends result self.old more.items self.new }
     {
+        let _ = &self.rows;
         for row in more {
             self.push(row)?;
         }
@@ -73,6 +76,7 @@ impl Changing {
 }
 
 // Does one operation, and takes the rows that it changes.
+#[tactic(auto, using(crate::proofs::EffectLemmas::stopped, crate::proofs::EffectLemmas::overflowed, crate::proofs::EffectLemmas::went))]
 fn step(
     alloc: Global,
     draft: &mut Draft,

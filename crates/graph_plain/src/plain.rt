@@ -1,5 +1,6 @@
 //! The plain graph.
-ghost use Rattle.std.specs.Prelude.{◌≡◌, IfOk, OnErr, option_map, result_map_both};
+ghost use Rattle.std.specs.Prelude.{◌≡◌, IfOk, OnErr, option_map};
+ghost use Rattle.std.specs.Result.{result_map_both};
 ghost use Rattle.type_schema.specs.Graph.{vertex_at, opening};
 ghost use Rattle.type_schema.specs.Rows.{rows_as_changes};
 ghost use Rattle.request_reader.specs.Operations.{effect};
