@@ -1,5 +1,6 @@
 //! The order of the bytes of whole keys.
-ghost use Rattle.std.specs.Prelude.{◌≡◌, ◌∷◌, ◌++◌, Some, refl};
+ghost use Rattle.std.specs.Prelude.{◌≡◌, ◌∷◌, ◌++◌, length, Some, refl};
+ghost use Rattle.std.specs.List.{slice_get};
 ghost use Rattle.std.specs.Ordering.{is_eq, ordering_then};
 ghost use Rattle.std.specs.Cmp.{eq_by_cmp_equiv, partial_equiv_from_equiv, po};
 ghost use Rattle.a1_value.specs.Order.{byte_order, value_order};
@@ -20,23 +21,39 @@ fn compare_names(a: &Txt, b: &Txt) -> Ordering
     }
 }
 
-// Compares two texts of a tenant, `/` and a name.
+// The bytes of a tenant, `/` and a name.
+fn path_size(graph: &GraphName) -> usize
+    ensures { result ≡ length (graph.now.tenant ++ 47 ∷ graph.now.name) }
+{
+    graph.tenant.as_bytes().len() + 1 + graph.name.as_bytes().len()
+}
+
+// One of these bytes.
+fn path_byte(graph: &GraphName, at: usize) -> Option<u8>
+    ensures { result ≡ slice_get (graph.now.tenant ++ 47 ∷ graph.now.name) at }
+{
+    let tenant = graph.tenant.as_bytes();
+    if at < tenant.len() {
+        tenant.get(at).copied()
+    } else if at == tenant.len() {
+        Some(b'/')
+    } else {
+        graph.name.as_bytes().get(at - tenant.len() - 1).copied()
+    }
+}
+
+// Compares two graphs by these bytes.
+#[tactic(auto, using(crate::proofs::KeyOrderLemmas::in_step))]
 fn compare_paths(a: &GraphName, b: &GraphName) -> Ordering
     ensures { result ≡ byte_order (a.now.tenant ++ 47 ∷ a.now.name) (b.now.tenant ++ 47 ∷ b.now.name) }
 {
-    let ours = a
-        .tenant
-        .as_bytes()
-        .iter()
-        .chain(b"/")
-        .chain(a.name.as_bytes());
-    let theirs = b
-        .tenant
-        .as_bytes()
-        .iter()
-        .chain(b"/")
-        .chain(b.name.as_bytes());
-    ours.cmp(theirs)
+    for at in 0..path_size(a).max(path_size(b)) {
+        match path_byte(a, at).cmp(&path_byte(b, at)) {
+            Ordering::Equal => {}
+            order => return order,
+        }
+    }
+    Ordering::Equal
 }
 
 #[tactic(auto, using(crate::proofs::KeyOrderLemmas::graphs))]
