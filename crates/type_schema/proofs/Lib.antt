@@ -3,3 +3,4 @@ pub mod Several
 pub mod SizeLemmas
 pub mod LayoutLemmas
 pub mod CheckLemmas
+pub mod KeyOrderLemmas
