@@ -99,8 +99,8 @@ between g n kind from to =
     passing (key_in one from.id) (λ a.
     passing (key_in two to.id) (λ b.
     ends_there g
-        (record { graph = number; kind = kind; from_kind = from.kind; from = a; to_kind = to.kind; to = b })
-        schema))))))
+    (record { graph = number; kind = kind; from_kind = from.kind; from = a; to_kind = to.kind; to = b })
+    schema))))))
 
 -- ---- what stands against an operation, in order, or else what it does
 

@@ -51,7 +51,7 @@ has_two one two fields = false
 abbrev pub name_in : Json → Option (List ℕ)
 name_in pattern =
     if has_two (codes "_type") (codes "id") (fields_in pattern)
-        && is_text (codes "name") (member_of (codes "_type") (fields_in pattern))
+    && is_text (codes "name") (member_of (codes "_type") (fields_in pattern))
     then option_and_then as_text (member_of (codes "id") (fields_in pattern))
     else None
 
@@ -59,7 +59,7 @@ name_in pattern =
 unfoldable pub name_asked : Json → Option (List ℕ)
 name_asked json =
     if has_two (codes "ask") (codes "graph") (fields_in json)
-        && is_text (codes "sys/names") (member_of (codes "graph") (fields_in json))
+    && is_text (codes "sys/names") (member_of (codes "graph") (fields_in json))
     then option_and_then name_in (member_of (codes "ask") (fields_in json))
     else None
 
