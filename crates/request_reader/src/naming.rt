@@ -1,9 +1,9 @@
 //! The names in a request's objects.
 ghost use Rattle.std.specs.Prelude.{◌≡◌, ◌&&◌, is_some, map, option_map, option_and_then};
 ghost use Rattle.std.specs.List.{list_all};
-ghost use Rattle.a1_json.specs.Fields.{member_of, as_text};
+ghost use Rattle.a1_json.specs.Fields.{as_text};
 ghost use Rattle.type_schema.specs.Names.{is_name, graph_whole};
-ghost use Rattle.request_reader.specs.Forms.{text_is_name, text_is_graph, is_named, all_named, attribute_form, part_named, body_named};
+ghost use Rattle.request_reader.specs.Forms.{text_is_name, text_is_graph, is_named, members_named, all_named, attribute_form, part_named, parts_named, body_named};
 
 use crate::forms::{ATTRIBUTE, END, Member, Place, Verb};
 use crate::shapes::{fields_in, form_of, items_in};
@@ -19,6 +19,12 @@ fn is_name(bytes: &[u8]) -> bool
     name_of(bytes).is_some()
 }
 
+fn are_names(one: &[u8], two: &[u8]) -> bool
+    ensures { result ≡ (is_name one.now && is_name two.now) }
+{
+    is_name(one) && is_name(two)
+}
+
 // Whether bytes are a tenant's name, `/` and a name within it.
 fn is_graph(bytes: &[u8]) -> bool
     ensures { result ≡ is_some (graph_whole bytes.now) }
@@ -26,7 +32,7 @@ fn is_graph(bytes: &[u8]) -> bool
     for (at, byte) in bytes.iter().enumerate() {
         if *byte == b'/' {
             let (tenant, rest) = bytes.split_at(at);
-            return is_name(tenant) && is_name(rest.split_at(1).1);
+            return are_names(tenant, rest.split_at(1).1);
         }
     }
     false
@@ -71,12 +77,17 @@ fn is_named(place: Place, json: Option<&Json>) -> bool
 }
 
 fn members_named(form: &[Member], members: &[(Txt, Json)]) -> bool
-    ensures { result ≡ list_all (λ m. is_named m.1 (member_of m.0.now members.now)) form.now }
+    ensures { result ≡ members_named (map (λ m. (m.0.now, m.1, m.2)) form.now) members.now }
 {
-    form.iter().all(|m| is_named(m.1, member(members, m.0)))
+    for m in form {
+        if !is_named(m.1, member(members, m.0)) {
+            return false;
+        }
+    }
+    true
 }
 
-#[tactic(auto, unfolding(crate::specs::Forms::all_named), using(std::proofs::lemmas::Grind::common_steps))]
+#[tactic(auto, unfolding(crate::specs::Forms::all_named))]
 fn all_named(form: &[Member], json: &Json) -> bool
     ensures { result ≡ all_named (map (λ m. (m.0.now, m.1, m.2)) form.now) json.now }
 {
@@ -102,9 +113,14 @@ fn part_named(place: Place, json: Option<&Json>) -> bool
 }
 
 fn parts_named(form: &[Member], members: &[(Txt, Json)]) -> bool
-    ensures { result ≡ list_all (λ m. part_named m.1 (member_of m.0.now members.now)) form.now }
+    ensures { result ≡ parts_named (map (λ m. (m.0.now, m.1, m.2)) form.now) members.now }
 {
-    form.iter().all(|m| part_named(m.1, member(members, m.0)))
+    for m in form {
+        if !part_named(m.1, member(members, m.0)) {
+            return false;
+        }
+    }
+    true
 }
 
 /// Whether in each place of a name or of a graph in what stands at an operation's name there is one.
@@ -115,6 +131,15 @@ pub fn body_named(verb: Verb, json: &Json) -> bool
     match verb {
         Verb::CreateTenant => is_named(Place::Name, Some(json)),
         Verb::CreateGraph | Verb::DropGraph => is_named(Place::Graph, Some(json)),
-        _ => all_named(form_of(verb), json) && parts_named(form_of(verb), fields_in(json)),
+        Verb::CreateVertexType
+        | Verb::CreateEdgeType
+        | Verb::Put
+        | Verb::Set
+        | Verb::Add
+        | Verb::Drop
+        | Verb::Link
+        | Verb::Unlink => {
+            all_named(form_of(verb), json) && parts_named(form_of(verb), fields_in(json))
+        }
     }
 }

@@ -113,6 +113,7 @@ fn said_by(alloc: Global, json: &Json) -> Result<Op, RequestFault>
     }
 }
 
+#[tactic(auto, using(crate::proofs::EachLemmas::each))]
 fn all_said(alloc: Global, items: &[Json]) -> Result<Items<Op>, RequestFault>
     ensures { Reads result (all_said items.now) }
 {

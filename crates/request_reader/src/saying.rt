@@ -201,6 +201,7 @@ fn attr_of(alloc: Global, members: &[(Txt, Json)]) -> Result<Attr, RequestFault>
     Ok(Attr { name, kind, index })
 }
 
+#[tactic(auto, using(crate::proofs::EachLemmas::each))]
 fn attrs_of(alloc: Global, items: &[Json]) -> Result<Schema, RequestFault>
     ensures { Reads result (attrs_of items.now) }
 {

@@ -1,9 +1,7 @@
 //! The shape of a request's objects.
-ghost use Rattle.std.specs.Prelude.{◌≡◌, ◌&&◌, map, option_map};
-ghost use Rattle.std.specs.List.{list_all, list_any};
-ghost use Rattle.std.specs.Str.{bytes_eq};
-ghost use Rattle.a1_json.specs.Fields.{member_of};
-ghost use Rattle.request_reader.specs.Forms.{verb_in, verb_of, form_of, attribute_form, fields_in, items_in, is_given, fits, member_fits, is_known, has_form, part_fits, body_fits};
+ghost use Rattle.std.specs.Prelude.{◌≡◌, map, option_map};
+ghost use Rattle.std.specs.List.{list_all};
+ghost use Rattle.request_reader.specs.Forms.{verb_in, verb_of, form_of, attribute_form, fields_in, items_in, is_given, fits, member_fits, members_fit, is_known, has_form, part_fits, parts_fit, body_fits};
 
 use crate::forms::{
     ADD, ATTRIBUTE, DROP, END, LINK, Member, PUT, Place, SET, TYPE, UNLINK, VERBS, Verb,
@@ -109,16 +107,25 @@ fn member_fits(place: Place, must: bool, json: Option<&Json>) -> bool
 }
 
 fn members_fit(form: &[Member], members: &[(Txt, Json)]) -> bool
-    ensures { result ≡ list_all (λ m. member_fits m.1 m.2 (member_of m.0.now members.now)) form.now }
+    ensures { result ≡ members_fit (map (λ m. (m.0.now, m.1, m.2)) form.now) members.now }
 {
-    form.iter()
-        .all(|m| member_fits(m.1, m.2, member(members, m.0)))
+    for m in form {
+        if !member_fits(m.1, m.2, member(members, m.0)) {
+            return false;
+        }
+    }
+    true
 }
 
 fn is_known(form: &[Member], name: &str) -> bool
-    ensures { result ≡ list_any (λ m. bytes_eq m.0.now name.now) form.now }
+    ensures { result ≡ is_known (map (λ m. (m.0.now, m.1, m.2)) form.now) name.now }
 {
-    form.iter().any(|m| m.0 == name)
+    for m in form {
+        if m.0 == name {
+            return true;
+        }
+    }
+    false
 }
 
 fn are_known(form: &[Member], members: &[(Txt, Json)]) -> bool
@@ -157,9 +164,14 @@ fn part_fits(place: Place, json: Option<&Json>) -> bool
 }
 
 fn parts_fit(form: &[Member], members: &[(Txt, Json)]) -> bool
-    ensures { result ≡ list_all (λ m. part_fits m.1 (member_of m.0.now members.now)) form.now }
+    ensures { result ≡ parts_fit (map (λ m. (m.0.now, m.1, m.2)) form.now) members.now }
 {
-    form.iter().all(|m| part_fits(m.1, member(members, m.0)))
+    for m in form {
+        if !part_fits(m.1, member(members, m.0)) {
+            return false;
+        }
+    }
+    true
 }
 
 /// Whether what stands at an operation's name has its form.
@@ -170,6 +182,15 @@ pub fn body_fits(verb: Verb, json: &Json) -> bool
     match verb {
         Verb::CreateTenant => fits(Place::Name, json),
         Verb::CreateGraph | Verb::DropGraph => fits(Place::Graph, json),
-        _ => has_form(form_of(verb), json) && parts_fit(form_of(verb), fields_in(json)),
+        Verb::CreateVertexType
+        | Verb::CreateEdgeType
+        | Verb::Put
+        | Verb::Set
+        | Verb::Add
+        | Verb::Drop
+        | Verb::Link
+        | Verb::Unlink => {
+            has_form(form_of(verb), json) && parts_fit(form_of(verb), fields_in(json))
+        }
     }
 }
