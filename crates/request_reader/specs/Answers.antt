@@ -1,5 +1,5 @@
 -- What a request for a name is answered over a graph.
-use Rattle.std.specs.Prelude.{ℕ, List, [], ◌∷◌, is_some, if◌then◌else◌, codes}
+use Rattle.std.specs.Prelude.{List, [], ◌∷◌, is_some, if◌then◌else◌}
 use Rattle.a1_value.specs.declared.value.Value.TheVariants.{Text}
 use Rattle.type_schema.specs.declared.names.VertexName.{VertexName}
 use Rattle.type_schema.specs.Names.{Name}

@@ -85,6 +85,9 @@ abbrev pub member_fits : Place → Bool → Option Json → Bool
 member_fits place must None = not must
 member_fits place must (Some json) = fits place json
 
+abbrev pub members_fit : Form → Fields → Bool
+members_fit form fields = list_all (λ m. member_fits m.1 m.2 (member_of m.0 fields)) form
+
 abbrev pub is_known : Form → List ℕ → Bool
 is_known form name = list_any (λ m. bytes_eq m.0 name) form
 
@@ -92,8 +95,7 @@ is_known form name = list_any (λ m. bytes_eq m.0 name) form
 unfoldable pub has_form : Form → Json → Bool
 has_form form json =
     is_some (as_members json)
-    && (list_all (λ m. member_fits m.1 m.2 (member_of m.0 (fields_in json))) form
-    && list_all (λ m. is_known form m.0) (fields_in json))
+    && (members_fit form (fields_in json) && list_all (λ m. is_known form m.0) (fields_in json))
 
 -- an end has its form, and so has each attribute
 abbrev pub part_fits : Place → Option Json → Bool
@@ -101,14 +103,16 @@ part_fits place.End (Some json) = has_form end_form json
 part_fits place.Attributes (Some json) = list_all (has_form attribute_form) (items_in json)
 part_fits place json = true
 
+abbrev pub parts_fit : Form → Fields → Bool
+parts_fit form fields = list_all (λ m. part_fits m.1 (member_of m.0 fields)) form
+
 -- what stands at an operation's name has its form
 unfoldable pub body_fits : Verb → Json → Bool
 body_fits verb.CreateTenant json = fits place.Name json
 body_fits verb.CreateGraph json = fits place.Graph json
 body_fits verb.DropGraph json = fits place.Graph json
 body_fits verb json =
-    has_form (form_of verb) json
-    && list_all (λ m. part_fits m.1 (member_of m.0 (fields_in json))) (form_of verb)
+    has_form (form_of verb) json && parts_fit (form_of verb) (fields_in json)
 
 -- ---- names
 
@@ -125,8 +129,11 @@ is_named place.Name json = text_is_name (option_and_then as_text json)
 is_named place.Graph json = text_is_graph (option_and_then as_text json)
 is_named place json = true
 
+abbrev pub members_named : Form → Fields → Bool
+members_named form fields = list_all (λ m. is_named m.1 (member_of m.0 fields)) form
+
 unfoldable pub all_named : Form → Json → Bool
-all_named form json = list_all (λ m. is_named m.1 (member_of m.0 (fields_in json))) form
+all_named form json = members_named form (fields_in json)
 
 -- the same within an end, and within each attribute
 abbrev pub part_named : Place → Option Json → Bool
@@ -134,10 +141,12 @@ part_named place.End (Some json) = all_named end_form json
 part_named place.Attributes (Some json) = list_all (all_named attribute_form) (items_in json)
 part_named place json = true
 
+abbrev pub parts_named : Form → Fields → Bool
+parts_named form fields = list_all (λ m. part_named m.1 (member_of m.0 fields)) form
+
 unfoldable pub body_named : Verb → Json → Bool
 body_named verb.CreateTenant json = is_named place.Name (Some json)
 body_named verb.CreateGraph json = is_named place.Graph (Some json)
 body_named verb.DropGraph json = is_named place.Graph (Some json)
 body_named verb json =
-    all_named (form_of verb) json
-    && list_all (λ m. part_named m.1 (member_of m.0 (fields_in json))) (form_of verb)
+    all_named (form_of verb) json && parts_named (form_of verb) (fields_in json)

@@ -1,5 +1,5 @@
 -- What operations mean over a graph: the graph afterwards with the changes, or the refusal.
-use Rattle.std.specs.Prelude.{ℕ, ◌+◌, List, [], ◌∷◌, ◌++◌, length, map, filter, Bool, not, ◌||◌, nat_eq, nat_le, nat_lt, Option, Some, None, is_some, Result, Ok, Err, bytes_eq, sum_by}
+use Rattle.std.specs.Prelude.{ℕ, ◌+◌, List, [], ◌∷◌, ◌++◌, length, map, filter, Bool, not, ◌||◌, nat_eq, nat_le, nat_lt, Option, Some, None, is_some, Result, Ok, bytes_eq, sum_by}
 use Rattle.std.specs.Ordering.{is_eq}
 use Rattle.a1_base.specs.declared.limits.TheConstants.{CHANGE_LIMIT, CHANGE_BYTES_LIMIT, GRAPH_NUMBER_LIMIT}
 use Rattle.a1_base.specs.Maps.{with_entry, without}
@@ -99,8 +99,8 @@ between g n kind from to =
     passing (key_in one from.id) (λ a.
     passing (key_in two to.id) (λ b.
     ends_there g
-        (record { graph = number; kind = kind; from_kind = from.kind; from = a; to_kind = to.kind; to = b })
-        schema))))))
+    (record { graph = number; kind = kind; from_kind = from.kind; from = a; to_kind = to.kind; to = b })
+    schema))))))
 
 -- ---- what stands against an operation, in order, or else what it does
 

@@ -51,7 +51,7 @@ has_two one two fields = false
 abbrev pub name_in : Json → Option (List ℕ)
 name_in pattern =
     if has_two (codes "_type") (codes "id") (fields_in pattern)
-        && is_text (codes "name") (member_of (codes "_type") (fields_in pattern))
+    && is_text (codes "name") (member_of (codes "_type") (fields_in pattern))
     then option_and_then as_text (member_of (codes "id") (fields_in pattern))
     else None
 
@@ -59,7 +59,7 @@ name_in pattern =
 unfoldable pub name_asked : Json → Option (List ℕ)
 name_asked json =
     if has_two (codes "ask") (codes "graph") (fields_in json)
-        && is_text (codes "sys/names") (member_of (codes "graph") (fields_in json))
+    && is_text (codes "sys/names") (member_of (codes "graph") (fields_in json))
     then option_and_then name_in (member_of (codes "ask") (fields_in json))
     else None
 
@@ -103,6 +103,11 @@ is_some_list [] = false
 is_some_list (j ∷ js) = true
 
 -- ---- what an operation says: that each part is there was looked at before
+
+-- what is read in each of some values, or the first fault
+abbrev pub each_of : {X : Type 0} → (Json → Result X BadWord) → List Json → Result (List X) BadWord
+each_of read [] = Ok []
+each_of read (j ∷ js) = passing (read j) (λ x. passing (each_of read js) (λ xs. Ok (x ∷ xs)))
 
 abbrev pub text_in : List ℕ → Fields → Result (List ℕ) BadWord
 text_in name fields = need (option_and_then as_text (member_of name fields)) bad.Attrs Ok
@@ -176,8 +181,7 @@ attr_of fields =
     })))
 
 abbrev pub attrs_of : List Json → Result Schema BadWord
-attrs_of [] = Ok []
-attrs_of (j ∷ js) = passing (attr_of (fields_in j)) (λ attr. passing (attrs_of js) (λ attrs. Ok (attr ∷ attrs)))
+attrs_of js = each_of (λ j. attr_of (fields_in j)) js
 
 -- the schema, where it obeys the rule of its kind of type
 abbrev pub ruled : TypeSchema → Result TypeSchema BadWord
@@ -239,9 +243,8 @@ abbrev pub said_by : Option (Verb × Json) → Result Op BadWord
 said_by None = Err bad.Attrs
 said_by (Some o) = said o.0 o.1
 
-unfoldable pub all_said : List Json → Result (List Op) BadWord
-all_said [] = Ok []
-all_said (j ∷ js) = passing (said_by (operation j)) (λ o. passing (all_said js) (λ ops. Ok (o ∷ ops)))
+abbrev pub all_said : List Json → Result (List Op) BadWord
+all_said js = each_of (λ j. said_by (operation j)) js
 
 -- ---- requests
 

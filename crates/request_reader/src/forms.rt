@@ -39,6 +39,9 @@ pub enum Verb {
     Unlink,
 }
 
+/// A member of an object: its name, what stands there, and whether it must be there.
+pub type Member = (&'static str, Place, bool);
+
 /// The operations.
 pub const VERBS: &[(&str, Verb)] = &[
     ("create_tenant", Verb::CreateTenant),
@@ -55,21 +58,21 @@ pub const VERBS: &[(&str, Verb)] = &[
 ];
 
 /// A new type.
-pub const TYPE: &[(&str, Place, bool)] = &[
+pub const TYPE: &[Member] = &[
     ("graph", Place::Graph, true),
     ("type", Place::Name, true),
     ("attrs", Place::Attributes, true),
 ];
 
 /// A new vertex.
-pub const PUT: &[(&str, Place, bool)] = &[
+pub const PUT: &[Member] = &[
     ("graph", Place::Graph, true),
     ("type", Place::Name, true),
     ("v", Place::Values, true),
 ];
 
 /// New values of a vertex.
-pub const SET: &[(&str, Place, bool)] = &[
+pub const SET: &[Member] = &[
     ("graph", Place::Graph, true),
     ("type", Place::Name, true),
     ("id", Place::Key, true),
@@ -77,7 +80,7 @@ pub const SET: &[(&str, Place, bool)] = &[
 ];
 
 /// An addition to a value of a vertex.
-pub const ADD: &[(&str, Place, bool)] = &[
+pub const ADD: &[Member] = &[
     ("graph", Place::Graph, true),
     ("type", Place::Name, true),
     ("id", Place::Key, true),
@@ -86,14 +89,14 @@ pub const ADD: &[(&str, Place, bool)] = &[
 ];
 
 /// A vertex that goes.
-pub const DROP: &[(&str, Place, bool)] = &[
+pub const DROP: &[Member] = &[
     ("graph", Place::Graph, true),
     ("type", Place::Name, true),
     ("id", Place::Key, true),
 ];
 
 /// A new edge.
-pub const LINK: &[(&str, Place, bool)] = &[
+pub const LINK: &[Member] = &[
     ("graph", Place::Graph, true),
     ("type", Place::Name, true),
     ("from", Place::End, true),
@@ -102,7 +105,7 @@ pub const LINK: &[(&str, Place, bool)] = &[
 ];
 
 /// An edge that goes.
-pub const UNLINK: &[(&str, Place, bool)] = &[
+pub const UNLINK: &[Member] = &[
     ("graph", Place::Graph, true),
     ("type", Place::Name, true),
     ("from", Place::End, true),
@@ -110,10 +113,10 @@ pub const UNLINK: &[(&str, Place, bool)] = &[
 ];
 
 /// An end of an edge.
-pub const END: &[(&str, Place, bool)] = &[("type", Place::Name, true), ("id", Place::Key, true)];
+pub const END: &[Member] = &[("type", Place::Name, true), ("id", Place::Key, true)];
 
 /// An attribute of a type.
-pub const ATTRIBUTE: &[(&str, Place, bool)] = &[
+pub const ATTRIBUTE: &[Member] = &[
     ("name", Place::Name, true),
     ("kind", Place::Text, true),
     ("index", Place::Flag, false),

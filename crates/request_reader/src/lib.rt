@@ -7,9 +7,12 @@
 
 mod answer;
 mod forms;
+mod naming;
 mod operation;
 mod reading;
 mod request;
+mod saying;
+mod shapes;
 
 pub use answer::{Answer, Row};
 pub use operation::{Action, End, Op};
