@@ -12,6 +12,7 @@ mod deciding;
 mod draft;
 mod effects;
 mod finding;
+mod looking;
 mod places;
 mod plain;
 mod rows;
