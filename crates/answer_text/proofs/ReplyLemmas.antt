@@ -1,5 +1,5 @@
 -- That a reply as JSON has no float.
-use Rattle.std.proofs.Common.{◌≡◌, ℕ, List, [], ◌∷◌, map, false, None, Some, refl, ℤ, pos, negsuc}
+use Rattle.std.proofs.Common.{◌≡◌, ℕ, List, [], ◌∷◌, map, false, Option, None, Some, refl, ℤ, pos, negsuc}
 use Rattle.serde_json.specs.Data.{Members, no_members, put}
 use Rattle.serde_json.specs.View.{items_of}
 use Rattle.serde_json.specs.Written.{has_float, items_have_float, members_have_float}
@@ -10,8 +10,7 @@ use Rattle.a1_value.specs.declared.value.Value.TheVariants.{Int, Text, Bytes}
 use Rattle.request_reader.specs.declared.answer.Row.{Row}
 use Rattle.answer_text.specs.declared.reply.Reply.{Reply}
 use Rattle.answer_text.specs.declared.reply.Reply.TheVariants.{Ok, Rows, Refused, Bad, Memory}
-use Rattle.type_schema.specs.declared.refusal.Refusal.{Refusal}
-use Rattle.answer_text.specs.Reply.{value_data, row_data, refused_data, reply_data}
+use Rattle.answer_text.specs.Reply.{value_data, row_data, with_attr, reply_data}
 
 int_plain : (n : ℤ) → has_float (value_data (Int n)) ≡ false
 int_plain (pos n) = refl
@@ -30,14 +29,14 @@ rows_plain : (rows : List Row) → items_have_float (items_of (map row_data rows
 rows_plain [] = refl
 rows_plain (row ∷ rows) = rw (all_plain row.members no_members refl, rows_plain rows) refl
 
-refused_plain : (at : ℕ) (refusal : Refusal) → has_float (refused_data at refusal) ≡ false
-refused_plain at (record { word = word; attr = None }) = refl
-refused_plain at (record { word = word; attr = Some attr }) = refl
+attr_plain : (attr : Option (List ℕ)) (members : Members) → members_have_float members ≡ false → members_have_float (with_attr attr members) ≡ false
+attr_plain None ms h = h
+attr_plain (Some attr) ms h = h
 
 -- no reply has a float
 pub reply_plain : (r : Reply) → has_float (reply_data r) ≡ false
 reply_plain (Ok stamp) = refl
 reply_plain (Rows at rows) = rw (rows_plain rows)
-reply_plain (Refused at refusal) = refused_plain at refusal
+reply_plain (Refused at refusal) = attr_plain refusal.attr _ refl
 reply_plain (Bad word) = refl
 reply_plain Memory = refl

@@ -93,7 +93,7 @@ reached_kept graph after (Ok reached) h = h
 reached_kept graph after (Err refusal) h = absurd h
 
 reached_ok : (r : Result Reached Refusal) (after : Graph) → IsReached r after → IsOk r
-reached_ok (Ok reached) after h = tt
+reached_ok (Ok reached) after h = refl
 reached_ok (Err refusal) after h = absurd h
 
 module _ (base : ℕ) (graph : Graph) (clock : ℕ) (after : Graph) (later : ℕ) where
