@@ -48,10 +48,10 @@ const SERVED: Scripts = &[
         1 {\"ok\":3}\n",
     ),
     (&[ASK_ANN], "1 {\"at\":1,\"rows\":[]}\n"),
-    (&["1 hello\n"], "1 {\"bad\":\"not_built\"}\n"),
+    (&["1 hello\n"], "1 {\"bad\":\"not_json\"}\n"),
     (
         &["\n1 \n\n1 {}"],
-        "1 {\"bad\":\"not_built\"}\n1 {\"bad\":\"not_built\"}\n",
+        "1 {\"bad\":\"not_json\"}\n1 {\"bad\":\"shape\"}\n",
     ),
 ];
 

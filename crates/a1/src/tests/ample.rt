@@ -1,8 +1,7 @@
 //! Calls of the layers below with ample memory.
 use super::ASK_ANN;
 use crate::streams::{Input, read_all};
-use a1_base::{Bin, MemSink, MemSource, Sink, Txt};
-use graph_plain::Plain;
+use a1_base::{Bin, MemSink, MemSource, Sink};
 use request_reader::Request;
 use std::test::Fail;
 
@@ -15,8 +14,8 @@ fn whole(input: Input) -> Option<Bin> {
 
 fn asks_for(request: &Request, name: &str) -> bool {
     match request {
-        Request::Ask(asked) => asked.as_text() == name,
-        Request::Put(_) => false,
+        Request::Name(asked) => asked.as_text() == name,
+        Request::Do(_) => false,
     }
 }
 
@@ -43,18 +42,6 @@ fn a_sink_takes_a_piece(rt: HostRuntime) -> Result<(), Fail> {
     let mut sink = MemSink::new(rt.alloc(), Vec::new(rt.alloc()));
     assert_eq!(rt; sink.write(b"ab"), Ok(2));
     assert!(rt; sink.bytes() == b"ab".as_slice());
-    Ok(())
-}
-
-#[test]
-fn a_name_is_put_once(rt: HostRuntime) -> Result<(), Fail> {
-    let name = Txt::from_text(rt.alloc(), "ann")?;
-    assert!(rt; name.as_text() == "ann");
-    let mut plain = Plain::opening(rt.alloc())?;
-    assert!(rt; !plain.has_name(&name));
-    assert_eq!(rt; plain.put_name(rt.alloc(), &name), Ok(true));
-    assert_eq!(rt; plain.put_name(rt.alloc(), &name), Ok(false));
-    assert!(rt; plain.has_name(&name));
     Ok(())
 }
 

@@ -1,12 +1,13 @@
 //! What a run holds.
 use super::{Case, assert_outcome, outcome_of};
 use answer_text::{Line, Reply, Transcript};
-use request_reader::{BadWord, Refusal, Word};
+use request_reader::BadWord;
 use run_text::Run;
 use std::alloc::{AllocError, Global};
 use std::process::Abort;
 use std::sync::Wait;
 use std::test::Fail;
+use type_schema::Word;
 
 const PUT_REQUEST: &str =
     "{\"do\":[{\"put\":{\"graph\":\"sys/names\",\"type\":\"name\",\"v\":{\"id\":\"ann\"}}}]}";
@@ -17,7 +18,7 @@ const THREE: Case = Case {
     failing_read: 0,
     failing_write: 0,
     status: 0,
-    text: "1 {\"ok\":2}\n1 {\"at\":2,\"refused\":\"key_taken\"}\n1 {\"bad\":\"not_built\"}\n",
+    text: "1 {\"ok\":2}\n1 {\"at\":2,\"refused\":\"key_taken\"}\n1 {\"bad\":\"not_json\"}\n",
 };
 
 // The run of a script of three requests.
@@ -49,14 +50,12 @@ fn asks(line: &Line, request: &str) -> bool {
 }
 
 fn is_key_taken(reply: &Reply, stamp: u64) -> bool {
-    let taken = Refusal {
-        word: Word::KeyTaken,
-    };
-    matches!(reply, Reply::Refused { at, refusal } if *at == stamp && *refusal == taken)
+    matches!(reply, Reply::Refused { at, refusal }
+        if *at == stamp && refusal.word == Word::KeyTaken && refusal.attr.is_none())
 }
 
-fn is_not_built(reply: &Reply) -> bool {
-    matches!(reply, Reply::Bad { word } if *word == BadWord::NotBuilt)
+fn is_not_json(reply: &Reply) -> bool {
+    matches!(reply, Reply::Bad { word } if *word == BadWord::NotJson)
 }
 
 #[test]
@@ -70,7 +69,7 @@ fn a_session_has_its_lines(rt: HostRuntime) -> Result<(), Fail> {
     assert!(rt; asks(&lines[1], PUT_REQUEST));
     assert!(rt; is_key_taken(&lines[1].reply, 2));
     assert!(rt; asks(&lines[2], "hello"));
-    assert!(rt; is_not_built(&lines[2].reply));
+    assert!(rt; is_not_json(&lines[2].reply));
     Ok(())
 }
 
