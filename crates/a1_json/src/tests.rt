@@ -59,9 +59,14 @@ fn nested(alloc: Global, depth: usize) -> Result<Vec<u8>, AllocError> {
 
 #[test]
 fn looks_into_a_tree(rt: HostRuntime) -> Result<(), Fail> {
-    let json = read(rt.alloc(), br#"{"flag":true,"list":["only"],"n":-3,"text":"x"}"#)?;
+    let json = read(
+        rt.alloc(),
+        br#"{"flag":true,"list":["only"],"n":-3,"text":"x"}"#,
+    )?;
     let members = json.as_members().ok_or("no object")?;
-    let list = member(members, "list").and_then(Json::as_list).ok_or("no list")?;
+    let list = member(members, "list")
+        .and_then(Json::as_list)
+        .ok_or("no list")?;
     assert_eq!(rt; list.len(), 1);
     assert_eq!(rt; member(members, "text").and_then(Json::as_text), Some("x"));
     assert_eq!(rt; member(members, "n").and_then(Json::as_int), Some(-3));
