@@ -21,12 +21,12 @@ use Rattle.type_schema.specs.declared.refusal.GraphFault.TheVariants as fault
 use Rattle.type_schema.specs.Refusals.{refused, refused_at, unless, need, unless_at, passing, Gives}
 use Rattle.type_schema.specs.Names.{Name}
 use Rattle.type_schema.specs.Layout.{record_bytes}
-use Rattle.type_schema.specs.Schemas.{Schema, Record, Members, behind, is_of, are_of, too_long, fits, value_in, value_over, member, missing, unknown, made, made_over, if_short, checked, merged, key_of}
+use Rattle.type_schema.specs.Schemas.{Schema, Record, Members, behind, is_of, are_of, too_long, fits, value_in, value_over, member, missing, unknown, made, made_over, if_short, checked, merged}
 
 -- ---- value by value
 
 -- an attribute, and those behind it
-drop_here : (schema : Schema) (i : ℕ) (a : Attr) → i < length schema → a ≡ get_or schema i a → drop i schema ≡ a ∷ drop (i + 1) schema
+pub drop_here : (schema : Schema) (i : ℕ) (a : Attr) → i < length schema → a ≡ get_or schema i a → drop i schema ≡ a ∷ drop (i + 1) schema
 drop_here schema i a lt here = drop-cons schema i a lt ∙ (ap (λ z. z ∷ drop (suc i) schema) (sym here) ∙ ap (λ n. a ∷ drop n schema) (sym (add-one i)))
 
 -- the values in front, and those that are still to be made
@@ -34,12 +34,12 @@ abbrev pub with_front : Record → Result Record Refusal → Result Record Refus
 with_front front (Ok values) = Ok (front ++ values)
 with_front front (Err r) = Err r
 
-regroup : (front : Record) (v : Value) (next : Result Record Refusal) → with_front (front ++ v ∷ []) next ≡ with_front front (behind v next)
+pub regroup : (front : Record) (v : Value) (next : Result Record Refusal) → with_front (front ++ v ∷ []) next ≡ with_front front (behind v next)
 regroup front v (Ok values) = ap Ok (append_assoc front (v ∷ []) values)
 regroup front v (Err r) = refl
 
 -- a refusal stays where what it is a refusal of ends in it
-fault_of : {X Y : Type 0} (f : GraphFault) (step : Result X Refusal) (total : Result Y Refusal) → ((r : Refusal) → step ≡ Err r → total ≡ Err r) → Gives {X = X} (Err f) step → Gives {X = Y} (Err f) total
+pub fault_of : {X Y : Type 0} (f : GraphFault) (step : Result X Refusal) (total : Result Y Refusal) → ((r : Refusal) → step ≡ Err r → total ≡ Err r) → Gives {X = X} (Err f) step → Gives {X = Y} (Err f) total
 fault_of (fault.Refused r) step total next h = next r h
 fault_of fault.Memory step total next h = tt
 
@@ -105,7 +105,7 @@ over n b h = grind (arith, nat_tests)
 -- ---- what a passed guard says
 
 module _ {X : Type 0} where
-  unless_back : (b : Bool) (f : Refusal) (next : Result X Refusal) (x : X) → unless b f next ≡ Ok x → (b ≡ false) × (next ≡ Ok x)
+  pub unless_back : (b : Bool) (f : Refusal) (next : Result X Refusal) (x : X) → unless b f next ≡ Ok x → (b ≡ false) × (next ≡ Ok x)
   unfolding unless
   unless_back true f next x e = absurd cc
   unless_back false f next x e = (refl, e)
@@ -120,12 +120,12 @@ module _ {X : Type 0} where
   need_back None f next y e = absurd cc
   need_back (Some x) f next y e = (x, refl, e)
 
-  passing_back : {Y : Type 0} → (p : Result X Refusal) (next : X → Result Y Refusal) (y : Y) → passing p next ≡ Ok y → (x : X) × (p ≡ Ok x) × (next x ≡ Ok y)
+  pub passing_back : {Y : Type 0} → (p : Result X Refusal) (next : X → Result Y Refusal) (y : Y) → passing p next ≡ Ok y → (x : X) × (p ≡ Ok x) × (next x ≡ Ok y)
   unfolding passing
   passing_back (Ok x) next y e = (x, refl, e)
   passing_back (Err f) next y e = absurd cc
 
-behind_back : (v : Value) (r : Result Record Refusal) (values : Record) → behind v r ≡ Ok values → (rest : Record) × (r ≡ Ok rest) × (values ≡ v ∷ rest)
+pub behind_back : (v : Value) (r : Result Record Refusal) (values : Record) → behind v r ≡ Ok values → (rest : Record) × (r ≡ Ok rest) × (values ≡ v ∷ rest)
 behind_back v (Ok rest) values e = (rest, refl, cc)
 behind_back v (Err f) values e = absurd cc
 
@@ -152,7 +152,7 @@ value_of_over k old None v was e = let f : old ≡ v = cc in subst (λ z. is_of 
 value_of_over k old (Some g) v was e = value_of k g v e
 
 -- a value and the rest
-are_of_more : (a : Attr) (schema : Schema) (v : Value) (rest values : Record) → values ≡ v ∷ rest → is_of a.kind v ≡ true → are_of schema rest ≡ true → are_of (a ∷ schema) values ≡ true
+pub are_of_more : (a : Attr) (schema : Schema) (v : Value) (rest values : Record) → values ≡ v ∷ rest → is_of a.kind v ≡ true → are_of schema rest ≡ true → are_of (a ∷ schema) values ≡ true
 are_of_more a schema v rest values is one more = subst (λ z. are_of (a ∷ schema) z ≡ true) (sym is) (and_from (is_of a.kind v) (are_of schema rest) one more)
 
 made_of : (schema : Schema) (members : Members) (values : Record) → made schema members ≡ Ok values → are_of schema values ≡ true

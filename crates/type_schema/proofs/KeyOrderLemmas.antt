@@ -10,8 +10,6 @@ use Rattle.a1_value.specs.Order.{byte_order, value_order}
 use Rattle.type_schema.specs.declared.names.GraphName.{GraphName}
 use Rattle.type_schema.specs.declared.names.TypeName.{TypeName}
 use Rattle.type_schema.specs.declared.names.VertexName.{VertexName}
-use Rattle.type_schema.specs.declared.names.EdgeName.{EdgeName}
-use Rattle.type_schema.specs.declared.rows.StoreKey.{StoreKey}
 use Rattle.type_schema.specs.declared.rows.StoreKey.TheVariants as key
 use Rattle.type_schema.specs.Names.{Name}
 use Rattle.type_schema.specs.Rows.{short_first, key_order}

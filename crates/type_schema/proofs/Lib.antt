@@ -4,3 +4,4 @@ pub mod SizeLemmas
 pub mod LayoutLemmas
 pub mod CheckLemmas
 pub mod KeyOrderLemmas
+pub mod AddLemmas
