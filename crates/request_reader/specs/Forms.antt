@@ -2,6 +2,7 @@
 use Rattle.std.specs.Prelude.{ℕ, List, [], ◌∷◌, map, Bool, true, false, not, ◌&&◌, ◌||◌, Option, Some, None, is_some, option_and_then, if◌then◌else◌}
 use Rattle.std.specs.List.{list_all, list_any}
 use Rattle.std.specs.Str.{bytes_eq}
+use Rattle.std.specs.Borrow.{Bor}
 use Rattle.a1_json.specs.declared.tree.Json.{Json}
 use Rattle.a1_json.specs.Fields.{Fields, member_of, as_members, as_list, as_text, as_int, as_flag}
 use Rattle.type_schema.specs.Names.{is_name, graph_whole}
@@ -16,6 +17,10 @@ use Rattle.request_reader.specs.declared.forms.TheConstants.{VERBS, TYPE, PUT, S
 -- members: the name of each, what stands there, and whether it must be there
 abbrev pub Form : Type 0
 Form = List (List ℕ × Place × Bool)
+
+-- the form that a slice of a table spells
+abbrev pub form_in : List (Bor (List ℕ) × Place × Bool) → Form
+form_in members = map (λ m. (m.0.now, m.1, m.2)) members
 
 abbrev pub verb_in : List (List ℕ × Verb) → List ℕ → Option Verb
 verb_in [] name = None

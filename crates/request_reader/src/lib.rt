@@ -13,8 +13,10 @@ mod reading;
 mod request;
 mod saying;
 mod shapes;
+#[cfg(test)]
+mod tests;
 
 pub use answer::{Answer, Row};
 pub use operation::{Action, End, Op};
 pub use reading::read;
-pub use request::{BadWord, NAME_TYPE, NAMES_GRAPH, Request, RequestFault};
+pub use request::{BadWord, Request, RequestFault};

@@ -1,9 +1,9 @@
 //! The names in a request's objects.
-ghost use Rattle.std.specs.Prelude.{◌≡◌, ◌&&◌, is_some, map, option_map, option_and_then};
+ghost use Rattle.std.specs.Prelude.{◌≡◌, ◌&&◌, is_some, option_map, option_and_then};
 ghost use Rattle.std.specs.List.{list_all};
 ghost use Rattle.a1_json.specs.Fields.{as_text};
 ghost use Rattle.type_schema.specs.Names.{is_name, graph_whole};
-ghost use Rattle.request_reader.specs.Forms.{text_is_name, text_is_graph, is_named, members_named, all_named, attribute_form, part_named, parts_named, body_named};
+ghost use Rattle.request_reader.specs.Forms.{form_in, text_is_name, text_is_graph, is_named, members_named, all_named, attribute_form, part_named, parts_named, body_named};
 
 use crate::forms::{ATTRIBUTE, END, Member, Place, Verb};
 use crate::shapes::{fields_in, form_of, items_in};
@@ -77,7 +77,7 @@ fn is_named(place: Place, json: Option<&Json>) -> bool
 }
 
 fn members_named(form: &[Member], members: &[(Txt, Json)]) -> bool
-    ensures { result ≡ members_named (map (λ m. (m.0.now, m.1, m.2)) form.now) members.now }
+    ensures { result ≡ members_named (form_in form.now) members.now }
 {
     for m in form {
         if !is_named(m.1, member(members, m.0)) {
@@ -89,7 +89,7 @@ fn members_named(form: &[Member], members: &[(Txt, Json)]) -> bool
 
 #[tactic(auto, unfolding(crate::specs::Forms::all_named))]
 fn all_named(form: &[Member], json: &Json) -> bool
-    ensures { result ≡ all_named (map (λ m. (m.0.now, m.1, m.2)) form.now) json.now }
+    ensures { result ≡ all_named (form_in form.now) json.now }
 {
     members_named(form, fields_in(json))
 }
@@ -113,7 +113,7 @@ fn part_named(place: Place, json: Option<&Json>) -> bool
 }
 
 fn parts_named(form: &[Member], members: &[(Txt, Json)]) -> bool
-    ensures { result ≡ parts_named (map (λ m. (m.0.now, m.1, m.2)) form.now) members.now }
+    ensures { result ≡ parts_named (form_in form.now) members.now }
 {
     for m in form {
         if !part_named(m.1, member(members, m.0)) {

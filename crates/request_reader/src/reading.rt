@@ -7,7 +7,7 @@ ghost use Rattle.request_reader.specs.Request.{is_text, has_two, name_in, name_a
 use crate::Op;
 use crate::forms::Verb;
 use crate::naming::{body_named, text_of};
-use crate::request::{BadWord, NAME_TYPE, NAMES_GRAPH, Request, RequestFault};
+use crate::request::{BadWord, Request, RequestFault};
 use crate::saying::said;
 use crate::shapes::{body_fits, fields_in, items_in, verb_of};
 use a1_base::Txt;
@@ -42,7 +42,7 @@ fn name_in(pattern: &Json) -> Option<&str>
     ensures { option_map (λ name. name.now) result ≡ name_in pattern.now }
 {
     let members = fields_in(pattern);
-    if has_two("_type", "id", members) && is_text(NAME_TYPE, member(members, "_type")) {
+    if has_two("_type", "id", members) && is_text("name", member(members, "_type")) {
         text_of(member(members, "id"))
     } else {
         None
@@ -54,7 +54,7 @@ fn name_asked(json: &Json) -> Option<&str>
     ensures { option_map (λ name. name.now) result ≡ name_asked json.now }
 {
     let members = fields_in(json);
-    if has_two("ask", "graph", members) && is_text(NAMES_GRAPH, member(members, "graph")) {
+    if has_two("ask", "graph", members) && is_text("sys/names", member(members, "graph")) {
         name_in(member(members, "ask")?)
     } else {
         None

@@ -4,12 +4,6 @@ use a1_base::Txt;
 use sqlite_items::Items;
 use std::alloc::{AllocError, AllocFailed};
 
-/// The graph that names stand in.
-pub const NAMES_GRAPH: &str = "sys/names";
-
-/// The vertex type of a name.
-pub const NAME_TYPE: &str = "name";
-
 /// What a line asks for.
 #[derive(Drop)]
 pub enum Request {

@@ -1,7 +1,7 @@
 //! The shape of a request's objects.
 ghost use Rattle.std.specs.Prelude.{◌≡◌, map, option_map};
 ghost use Rattle.std.specs.List.{list_all};
-ghost use Rattle.request_reader.specs.Forms.{verb_in, verb_of, form_of, attribute_form, fields_in, items_in, is_given, fits, member_fits, members_fit, is_known, has_form, part_fits, parts_fit, body_fits};
+ghost use Rattle.request_reader.specs.Forms.{form_in, verb_in, verb_of, form_of, attribute_form, fields_in, items_in, is_given, fits, member_fits, members_fit, is_known, has_form, part_fits, parts_fit, body_fits};
 
 use crate::forms::{
     ADD, ATTRIBUTE, DROP, END, LINK, Member, PUT, Place, SET, TYPE, UNLINK, VERBS, Verb,
@@ -32,7 +32,7 @@ pub fn verb_of(name: &str) -> Option<Verb>
 
 /// The form of an operation's object; the first three have none.
 pub fn form_of(verb: Verb) -> &'static [Member]
-    ensures { map (λ m. (m.0.now, m.1, m.2)) result.now ≡ form_of verb }
+    ensures { form_in result.now ≡ form_of verb }
 {
     match verb {
         Verb::CreateTenant | Verb::CreateGraph | Verb::DropGraph => &[],
@@ -107,7 +107,7 @@ fn member_fits(place: Place, must: bool, json: Option<&Json>) -> bool
 }
 
 fn members_fit(form: &[Member], members: &[(Txt, Json)]) -> bool
-    ensures { result ≡ members_fit (map (λ m. (m.0.now, m.1, m.2)) form.now) members.now }
+    ensures { result ≡ members_fit (form_in form.now) members.now }
 {
     for m in form {
         if !member_fits(m.1, m.2, member(members, m.0)) {
@@ -118,7 +118,7 @@ fn members_fit(form: &[Member], members: &[(Txt, Json)]) -> bool
 }
 
 fn is_known(form: &[Member], name: &str) -> bool
-    ensures { result ≡ is_known (map (λ m. (m.0.now, m.1, m.2)) form.now) name.now }
+    ensures { result ≡ is_known (form_in form.now) name.now }
 {
     for m in form {
         if m.0 == name {
@@ -129,7 +129,7 @@ fn is_known(form: &[Member], name: &str) -> bool
 }
 
 fn are_known(form: &[Member], members: &[(Txt, Json)]) -> bool
-    ensures { result ≡ list_all (λ m. is_known (map (λ k. (k.0.now, k.1, k.2)) form.now) m.0) members.now }
+    ensures { result ≡ list_all (λ m. is_known (form_in form.now) m.0) members.now }
 {
     members.iter().all(|m| is_known(form, m.0.as_text()))
 }
@@ -137,7 +137,7 @@ fn are_known(form: &[Member], members: &[(Txt, Json)]) -> bool
 // Whether it is an object of the form's members, and no others.
 #[tactic(auto, unfolding(crate::specs::Forms::has_form))]
 fn has_form(form: &[Member], json: &Json) -> bool
-    ensures { result ≡ has_form (map (λ m. (m.0.now, m.1, m.2)) form.now) json.now }
+    ensures { result ≡ has_form (form_in form.now) json.now }
 {
     match json.as_members() {
         Some(members) => members_fit(form, members) && are_known(form, members),
@@ -164,7 +164,7 @@ fn part_fits(place: Place, json: Option<&Json>) -> bool
 }
 
 fn parts_fit(form: &[Member], members: &[(Txt, Json)]) -> bool
-    ensures { result ≡ parts_fit (map (λ m. (m.0.now, m.1, m.2)) form.now) members.now }
+    ensures { result ≡ parts_fit (form_in form.now) members.now }
 {
     for m in form {
         if !part_fits(m.1, member(members, m.0)) {
