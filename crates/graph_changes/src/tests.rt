@@ -1,11 +1,11 @@
 //! Items written by hand, and the places at which others break.
-use crate::{ChangeFault, decode_value, encode_value, read, size, write};
+use crate::{ChangeFault, decode_value, encode_value, front_change, read, room_left, size, write};
 use a1_base::{Bin, ReadFault, Txt};
 use a1_value::{Value, compare};
 use std::alloc::{AllocError, Global};
 use std::cmp::Ordering;
 use std::test::Fail;
-use type_schema::{StoreKey, StoreValue, TypeSchema};
+use type_schema::{Change, RowChange, StoreKey, StoreValue, TypeSchema};
 
 // The vertex `ann` of type `name` in graph 1, up to its record.
 const ANN: &[u8] = b"\0\0\0\x14\x04\0\0\0\0\0\0\0\x01\x04name\x02ann\0\0\x01";
@@ -70,6 +70,18 @@ const NO_VERTEX: &[u8] =
 const EDGE: &[u8] =
     b"\0\0\0\x1f\x05\0\0\0\0\0\0\0\x01\x05knows\x04name\x02a\0\0\x02it\x03\xff\0\0\x01\0\0\0\x01\0";
 
+const ITEMS: [&[u8]; 9] = [
+    COUNTER,
+    LAST_COUNTER,
+    TENANT,
+    NO_TENANT,
+    GRAPH,
+    VERTICES,
+    EDGES,
+    NO_VERTEX,
+    EDGE,
+];
+
 // What is read of bytes, written.
 fn again(alloc: Global, bytes: &[u8]) -> Result<Bin, ChangeFault> {
     let changes = read(alloc, bytes)?;
@@ -80,17 +92,7 @@ fn again(alloc: Global, bytes: &[u8]) -> Result<Bin, ChangeFault> {
 fn items_are_written_as_they_were_read(rt: HostRuntime) -> Result<(), Fail> {
     let alloc = rt.alloc();
     let mut all = Bin::new(alloc);
-    for item in [
-        COUNTER,
-        LAST_COUNTER,
-        TENANT,
-        NO_TENANT,
-        GRAPH,
-        VERTICES,
-        EDGES,
-        NO_VERTEX,
-        EDGE,
-    ] {
+    for item in ITEMS {
         all.append(item)?;
         let written = again(alloc, item)?;
         assert_eq!(rt; written.as_slice(), item);
@@ -158,6 +160,33 @@ fn items_have_their_values(rt: HostRuntime) -> Result<(), Fail> {
         assert_eq!(rt; told_value(&value), want);
         let written = value_again(alloc, &change.key, bytes.as_slice())?;
         assert_eq!(rt; written.as_slice(), bytes.as_slice());
+    }
+    Ok(())
+}
+
+// The change that an item is, with its value.
+fn row_change(alloc: Global, item: &[u8]) -> Result<RowChange, ReadFault> {
+    let Change { key, value } = front_change(alloc, item)?.0;
+    let value = match &value {
+        Some(bytes) => Some(decode_value(alloc, &key, bytes.as_slice())?),
+        None => None,
+    };
+    Ok(RowChange { key, value })
+}
+
+// A vertex whose key has a 00, with a value of each kind.
+const ZERO: &[u8] =
+    b"\0\0\0\x12\x04\0\0\0\0\0\0\0\x01\x01a\x02a\0\xffb\0\0\x01\0\0\0\x16\x03\x02\0\0\0\x01\0\x01\0\0\0\0\0\0\0\x2a\x03\0\0\0\x01\xff";
+
+#[test]
+fn an_item_takes_nine_bytes_more_than_its_change(rt: HostRuntime) -> Result<(), Fail> {
+    let alloc = rt.alloc();
+    for item in ITEMS.into_iter().chain([ZERO]) {
+        let change = row_change(alloc, item)?;
+        let size = item.len().saturating_add(9);
+        assert_eq!(rt; room_left(size, &change), Some(0), "with {item:?}");
+        assert_eq!(rt; room_left(size - 1, &change), None, "with {item:?}");
+        assert_eq!(rt; room_left(usize::MAX, &change), Some(usize::MAX - size));
     }
     Ok(())
 }

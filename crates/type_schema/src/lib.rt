@@ -30,3 +30,4 @@ pub use opening::{FIRST_NUMBER, NAME_TYPE, NAMES, NAMES_NUMBER, SYSTEM_TENANT};
 pub use refusal::{GraphFault, Refusal, Word, refuse, refuse_at};
 pub use rows::{Change, Changes, RowChange, StoreKey, StoreValue, TypeSchema};
 pub use schema::{Attr, Kind, Record, Schema};
+pub use size::{room_behind_name, room_behind_record, room_behind_schema};

@@ -1,8 +1,0 @@
-use Rattle.std.proofs.Common.{◌≡◌, ◌+◌, length, take}
-use Rattle.std.specs.List.{flat_map}
-use Rattle.a1_base.specs.declared.limits.TheConstants.{RECORD_LIMIT}
-use Rattle.a1_value.specs.Encoding.{value_bytes}
-use Rattle.type_schema.proofs.size.is_short.Given as goal
-
-abbrev pub invariant-loop-value : goal.invariant-loop-value
-invariant-loop-value l = l.room + (1 + length (flat_map value_bytes (take l.value-index l.values))) ≡ RECORD_LIMIT
