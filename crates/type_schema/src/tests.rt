@@ -299,33 +299,29 @@ fn edge(alloc: Global, kind: &str, from_kind: &str, to: i64) -> Result<StoreKey,
     }))
 }
 
+// Keys in their order.
+fn ordered(alloc: Global) -> Result<Vec<StoreKey>, AllocError> {
+    let mut keys = Vec::new(alloc);
+    keys.push(StoreKey::Counter)?;
+    keys.push(StoreKey::Tenant(Txt::from_text(alloc, "z")?))?;
+    for (tenant, name) in [("a.b", "a"), ("a", "b"), ("a", "ba"), ("a0", "a")] {
+        keys.push(graph(alloc, tenant, name)?)?;
+    }
+    let name = Txt::from_text(alloc, "a")?;
+    keys.push(StoreKey::TypeKey(TypeName { graph: 9, name }))?;
+    for (graph, kind, key) in [(2, "b", -1), (2, "b", 1), (2, "aa", 0), (10, "a", 0)] {
+        keys.push(vertex(alloc, graph, kind, Value::Int(key))?)?;
+    }
+    for (kind, from_kind, to) in [("b", "b", 1), ("b", "b", 2), ("b", "aa", 1), ("aa", "a", 1)] {
+        keys.push(edge(alloc, kind, from_kind, to)?)?;
+    }
+    Ok(keys)
+}
+
 #[test]
 fn keys_stand_as_their_bytes_do(rt: HostRuntime) -> Result<(), Fail> {
     let alloc = rt.alloc();
-    let t = StoreKey::TypeKey(TypeName {
-        graph: 9,
-        name: Txt::from_text(alloc, "a")?,
-    });
-    let keys = vec![in alloc;
-        StoreKey::Counter,
-        StoreKey::Tenant(Txt::from_text(alloc, "a")?),
-        StoreKey::Tenant(Txt::from_text(alloc, "a.b")?),
-        StoreKey::Tenant(Txt::from_text(alloc, "b")?),
-        graph(alloc, "a.b", "a")?,
-        graph(alloc, "a", "b")?,
-        graph(alloc, "a", "ba")?,
-        graph(alloc, "a0", "a")?,
-        t,
-        vertex(alloc, 2, "b", Value::Int(-1))?,
-        vertex(alloc, 2, "b", Value::Int(1))?,
-        vertex(alloc, 2, "b", Value::Text(Txt::from_text(alloc, "")?))?,
-        vertex(alloc, 2, "aa", Value::Int(0))?,
-        vertex(alloc, 10, "a", Value::Int(0))?,
-        edge(alloc, "b", "b", 1)?,
-        edge(alloc, "b", "b", 2)?,
-        edge(alloc, "b", "aa", 1)?,
-        edge(alloc, "aa", "a", 1)?,
-    ]?;
+    let keys = ordered(alloc)?;
     for (i, one) in keys.iter().enumerate() {
         assert!(rt; one.copy(alloc)? == *one);
         for other in &keys[i + 1..] {
