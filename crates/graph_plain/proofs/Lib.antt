@@ -1,1 +1,3 @@
 pub mod EffectLemmas
+pub mod FindingLemmas
+pub mod ChangingLemmas
