@@ -9,21 +9,21 @@ ghost use Rattle.request_reader.specs.Operations.{is_system, new_vertex, new_typ
 ghost use Rattle.graph_plain.specs.Draft.{now_of, HasNext};
 
 use crate::draft::Draft;
-use crate::looking::{between, found, graph_number, refused, vertex_schema};
+use crate::looking::{between, found, graph_number, vertex_schema};
 use a1_base::{GRAPH_NUMBER_LIMIT, Txt};
 use a1_value::Given;
 use request_reader::{Action, End, Op};
 use std::alloc::Global;
 use type_schema::{
-    EdgeName, GraphFault, GraphName, Record, TypeName, TypeSchema, VertexName, Word, add, check,
-    key_of, merge,
+    EdgeName, GraphFault, GraphName, Record, SYSTEM_TENANT, TypeName, TypeSchema, VertexName, Word,
+    add, check, key_of, merge, refuse,
 };
 
 // Whether the graph belongs to the tenant `sys`.
 fn is_system(name: &GraphName) -> bool
     ensures { result ≡ is_system name.now }
 {
-    name.tenant.as_text() == "sys"
+    name.tenant.as_text() == SYSTEM_TENANT
 }
 
 // ---- graphs and types
@@ -34,7 +34,7 @@ fn create_tenant(alloc: Global, draft: &Draft, tenant: &Txt) -> Result<Action, G
     ensures next { IfOk result HasNext }
 {
     if draft.tenants.get(tenant).is_some() {
-        return Err(refused(Word::TenantTaken));
+        return refuse(Word::TenantTaken);
     }
     Ok(Action::AddTenant(tenant.copy(alloc)?))
 }
@@ -45,17 +45,17 @@ fn create_graph(alloc: Global, draft: &Draft, name: &GraphName) -> Result<Action
     ensures next { IfOk result HasNext }
 {
     if is_system(name) {
-        return Err(refused(Word::System));
+        return refuse(Word::System);
     }
     if draft.tenants.get(&name.tenant).is_none() {
-        return Err(refused(Word::NoTenant));
+        return refuse(Word::NoTenant);
     }
     if draft.graphs.get(name).is_some() {
-        return Err(refused(Word::GraphTaken));
+        return refuse(Word::GraphTaken);
     }
     let number = draft.next;
     if number >= GRAPH_NUMBER_LIMIT {
-        return Err(refused(Word::GraphsFull));
+        return refuse(Word::GraphsFull);
     }
     Ok(Action::AddGraph {
         name: name.copy(alloc)?,
@@ -69,7 +69,7 @@ fn drop_graph(alloc: Global, draft: &Draft, name: &GraphName) -> Result<Action, 
     ensures next { IfOk result HasNext }
 {
     if is_system(name) {
-        return Err(refused(Word::System));
+        return refuse(Word::System);
     }
     let number = graph_number(draft, name)?;
     Ok(Action::DropGraph {
@@ -90,7 +90,7 @@ fn new_type(
     ensures next { IfOk result HasNext }
 {
     if draft.types.get(&name).is_some() {
-        return Err(refused(Word::TypeTaken));
+        return refuse(Word::TypeTaken);
     }
     let schema = schema.copy(alloc)?;
     Ok(Action::AddType { name, schema })
@@ -108,7 +108,7 @@ fn create_type(
     ensures next { IfOk result HasNext }
 {
     if is_system(graph) {
-        return Err(refused(Word::System));
+        return refuse(Word::System);
     }
     let name = TypeName {
         graph: graph_number(draft, graph)?,
@@ -137,7 +137,7 @@ fn new_vertex(
         key: key_of(alloc, &values)?,
     };
     if draft.vertices.get(&name).is_some() {
-        return Err(refused(Word::KeyTaken));
+        return refuse(Word::KeyTaken);
     }
     Ok(Action::WriteVertex { name, values })
 }
@@ -225,7 +225,7 @@ fn new_edge(draft: &Draft, name: EdgeName, values: Record) -> Result<Action, Gra
     ensures next { IfOk result HasNext }
 {
     if draft.edges.get(&name).is_some() {
-        return Err(refused(Word::EdgeTaken));
+        return refuse(Word::EdgeTaken);
     }
     Ok(Action::AddEdge { name, values })
 }
@@ -256,7 +256,7 @@ fn old_edge(draft: &Draft, name: EdgeName) -> Result<Action, GraphFault>
     ensures next { IfOk result HasNext }
 {
     if draft.edges.get(&name).is_none() {
-        return Err(refused(Word::NoEdge));
+        return refuse(Word::NoEdge);
     }
     Ok(Action::DropEdge(name))
 }

@@ -1,8 +1,7 @@
 //! What an operation looks up in the graph, in the order in which it does.
 ghost use Rattle.std.specs.Prelude.{◌≡◌};
 ghost use Rattle.std.specs.Result.{result_map_both};
-ghost use Rattle.type_schema.specs.declared.refusal.GraphFault.TheVariants as fault;
-ghost use Rattle.type_schema.specs.Refusals.{refused, Gives};
+ghost use Rattle.type_schema.specs.Refusals.{Gives};
 ghost use Rattle.request_reader.specs.Operations.{graph_number, vertex_schema, edge_schema, vertex_named, found, between, ends_there};
 ghost use Rattle.graph_plain.specs.Draft.{now_of};
 
@@ -13,8 +12,8 @@ use request_reader::End;
 use std::alloc::Global;
 use std::marker::Model;
 use type_schema::{
-    EdgeName, GraphFault, GraphName, Record, Refusal, Schema, TypeName, TypeSchema, VertexName,
-    Word, key,
+    EdgeName, GraphFault, GraphName, Record, Schema, TypeName, TypeSchema, VertexName, Word, key,
+    refuse,
 };
 
 /// A vertex that is there, with the schema of its type and its record.
@@ -48,24 +47,17 @@ impl<'a> Model for Edge<'a> {
     ghost view = { λ e. record { name = e.name; schema = e.schema.now } };
 }
 
-/// The refusal of this word, which speaks of no attribute.
-pub fn refused(word: Word) -> GraphFault
-    ensures { result ≡ fault.Refused (refused word) }
-{
-    GraphFault::Refused(Refusal { word, attr: None })
-}
-
 /// The number of the graph of this name, or `NoTenant` where its tenant is not there, or `NoGraph` where it is not.
 #[tactic(auto, unfolding(request_reader::specs::Operations::graph_number, type_schema::specs::Refusals::need))]
 pub fn graph_number(draft: &Draft, name: &GraphName) -> Result<u64, GraphFault>
     ensures { Gives result (graph_number (now_of draft.now) name.now) }
 {
     if draft.tenants.get(&name.tenant).is_none() {
-        return Err(refused(Word::NoTenant));
+        return refuse(Word::NoTenant);
     }
     match draft.graphs.get(name) {
         Some(number) => Ok(*number),
-        None => Err(refused(Word::NoGraph)),
+        None => refuse(Word::NoGraph),
     }
 }
 
@@ -85,7 +77,7 @@ pub fn vertex_schema<'a>(
     };
     match draft.types.get(&name) {
         Some(TypeSchema::OfVertices(schema)) => Ok(schema),
-        _ => Err(refused(Word::NoType)),
+        _ => refuse(Word::NoType),
     }
 }
 
@@ -105,7 +97,7 @@ pub fn edge_schema<'a>(
     };
     match draft.types.get(&name) {
         Some(TypeSchema::OfEdges(schema)) => Ok(schema),
-        _ => Err(refused(Word::NoType)),
+        _ => refuse(Word::NoType),
     }
 }
 
@@ -124,7 +116,7 @@ fn vertex_named<'a>(
             schema,
             values,
         }),
-        None => Err(refused(Word::NoVertex)),
+        None => refuse(Word::NoVertex),
     }
 }
 
@@ -175,7 +167,7 @@ fn ends_there<'a>(
         key: from.1,
     };
     if draft.vertices.get(&source).is_none() {
-        return Err(refused(Word::NoVertex));
+        return refuse(Word::NoVertex);
     }
     let target = VertexName {
         graph: number,
@@ -183,7 +175,7 @@ fn ends_there<'a>(
         key: to.1,
     };
     if draft.vertices.get(&target).is_none() {
-        return Err(refused(Word::NoVertex));
+        return refuse(Word::NoVertex);
     }
     let name = EdgeName {
         graph: number,
