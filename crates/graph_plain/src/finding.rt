@@ -1,5 +1,5 @@
-//! The edges of a vertex.
-ghost use Rattle.std.specs.Prelude.{◌≡◌, filter, map, IfOk};
+//! What belongs to a vertex, and to a graph.
+ghost use Rattle.std.specs.Prelude.{◌≡◌, filter, map, nat_eq, IfOk};
 ghost use Rattle.type_schema.specs.Graph.{vertex_order};
 ghost use Rattle.request_reader.specs.Operations.{touches};
 ghost use Rattle.graph_plain.specs.Draft.{now_of};
@@ -9,7 +9,7 @@ use a1_base::{Memory, Txt};
 use a1_value::Value;
 use std::alloc::Global;
 use std::cmp::Ordering;
-use type_schema::{EdgeName, VertexName};
+use type_schema::{EdgeName, TypeName, VertexName};
 
 // Compares the vertex with that of this graph, type and key.
 fn compare(vertex: &VertexName, graph: u64, kind: &Txt, key: &Value) -> Ordering
@@ -43,6 +43,54 @@ pub fn edges_of(alloc: Global, draft: &Draft, vertex: &VertexName) -> Result<Vec
     let mut names = Vec::new(alloc);
     for (name, _) in &edges {
         if touches(vertex, name) {
+            names.push(name.copy(alloc)?)?;
+        }
+    }
+    Ok(names)
+}
+
+/// The types of the graph of this number, in their order. It takes time in how many types there are in all. `Memory`
+/// comes for want of memory alone.
+pub fn types_in(alloc: Global, draft: &Draft, number: u64) -> Result<Vec<TypeName>, Memory>
+    ensures { IfOk result (λ names. names.items
+        ≡ map (λ e. e.0) (filter (λ e. nat_eq e.0.graph number) (now_of draft.now).types)) }
+{
+    let entries = draft.types.entries(alloc)?;
+    let mut names = Vec::new(alloc);
+    for (name, _) in &entries {
+        if name.graph == number {
+            names.push(name.copy(alloc)?)?;
+        }
+    }
+    Ok(names)
+}
+
+/// The vertices of the graph of this number, in their order. It takes time in how many vertices there are in all. `Memory`
+/// comes for want of memory alone.
+pub fn vertices_in(alloc: Global, draft: &Draft, number: u64) -> Result<Vec<VertexName>, Memory>
+    ensures { IfOk result (λ names. names.items
+        ≡ map (λ e. e.0) (filter (λ e. nat_eq e.0.graph number) (now_of draft.now).vertices)) }
+{
+    let entries = draft.vertices.entries(alloc)?;
+    let mut names = Vec::new(alloc);
+    for (name, _) in &entries {
+        if name.graph == number {
+            names.push(name.copy(alloc)?)?;
+        }
+    }
+    Ok(names)
+}
+
+/// The edges of the graph of this number, in their order. It takes time in how many edges there are in all. `Memory`
+/// comes for want of memory alone.
+pub fn edges_in(alloc: Global, draft: &Draft, number: u64) -> Result<Vec<EdgeName>, Memory>
+    ensures { IfOk result (λ names. names.items
+        ≡ map (λ e. e.0) (filter (λ e. nat_eq e.0.graph number) (now_of draft.now).edges)) }
+{
+    let entries = draft.edges.entries(alloc)?;
+    let mut names = Vec::new(alloc);
+    for (name, _) in &entries {
+        if name.graph == number {
             names.push(name.copy(alloc)?)?;
         }
     }
