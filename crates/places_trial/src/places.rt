@@ -1,0 +1,134 @@
+//! An ordered map that can go back to how it was, and needs no memory for that.
+ghost use Rattle.std.specs.Prelude.{◌≡◌, [], IfOk, OnOk, OnErr, option_map, map};
+ghost use Rattle.std.specs.declared.cmp.Ordering.TheVariants.{Equal};
+ghost use Rattle.a1_base.specs.Maps.{at, with_entry, without, IsOrdered};
+ghost use Rattle.places_trial.specs.Places.{set_at};
+
+use a1_base::Memory;
+use std::alloc::Global;
+use std::collections::BTreeMap;
+use std::marker::Model;
+
+/// An order whose ties are one and the same key.
+pub trait ExactOrd: Ord {
+    ghost exact: { (a b : Self) → Self.cmp a b ≡ Equal → a ≡ b };
+}
+
+/// A map in the order of its keys, with the entries as they stand and as they stood when they were last kept.
+#[derive(Drop)]
+pub struct Places<K: ExactOrd, V> {
+    // A key with `None` is an empty place: seen as absent.
+    map: BTreeMap<K, Option<V>>,
+    // For each change since the last `keep`, oldest first: the key, and what stood there before.
+    trail: Vec<(K, Option<V>)>,
+}
+
+impl<K: ExactOrd, V> Model for Places<K, V> {
+    ghost use Rattle.places_trial.specs.Places.{Kept, kept, led_back, AreSound};
+
+    ghost Value = { Kept K V };
+
+    ghost view = { λ p. record { now = kept p.map.entries; was = kept (led_back K.cmp p.trail.items p.map.entries) } };
+
+    ghost invariant = { λ p. AreSound K.cmp p.trail.items p.map.entries };
+}
+
+impl<K: ExactOrd + Drop, V: Drop> Places<K, V> {
+    /// No entries.
+    pub fn new(alloc: Global) -> Places<K, V>
+        ensures { result ≡ record { now = []; was = [] } }
+    {
+        Places {
+            map: BTreeMap::new(alloc),
+            trail: Vec::new(alloc),
+        }
+    }
+
+    /// The value at the key.
+    pub fn get(&self, key: &K) -> Option<&V>
+        ensures { option_map (λ v. v.now) result ≡ at K.cmp key.now self.now.now }
+    {
+        match self.map.get(key) {
+            Some(place) => place.as_ref(),
+            None => None,
+        }
+    }
+
+    /// Puts the value at the key, which is given twice. After `Memory`, which comes for want of memory alone, the
+    /// entries are as before.
+    pub fn put(&mut self, key: K, again: K, value: V) -> Result<(), Memory>
+        requires { again ≡ key }
+        ensures ok { OnOk result (self.new.now ≡ with_entry K.cmp key value self.old.now) }
+        ensures err { OnErr result (self.new.now ≡ self.old.now) }
+        ensures was { self.new.was ≡ self.old.was }
+    {
+        self.trail.reserve(1)?;
+        match self.map.insert(key, Some(value)) {
+            Ok(old) => {
+                self.trail.push_reserved((again, old.flatten()));
+                Ok(())
+            }
+            Err(_) => Err(Memory),
+        }
+    }
+
+    /// Takes the entry at the key out, if there is one. After `Memory`, which comes for want of memory alone, the
+    /// entries are as before.
+    pub fn take(&mut self, key: K) -> Result<(), Memory>
+        ensures ok { OnOk result (self.new.now ≡ without K.cmp key self.old.now) }
+        ensures err { OnErr result (self.new.now ≡ self.old.now) }
+        ensures was { self.new.was ≡ self.old.was }
+    {
+        self.trail.reserve(1)?;
+        let Some(place) = self.map.get_mut(&key) else {
+            return Ok(());
+        };
+        let old = place.take();
+        self.trail.push_reserved((key, old));
+        Ok(())
+    }
+
+    /// Keeps the entries as they stand: there is no way back from here. It needs no memory.
+    pub fn keep(&mut self)
+        ensures { self.new ≡ record { now = self.old.now; was = self.old.now } }
+    {
+        while let Some((key, _)) = self.trail.pop() {
+            if let Some(None) = self.map.get(&key) {
+                self.map.remove(&key);
+            }
+        }
+    }
+
+    /// Goes back to the entries as they were last kept. It needs no memory.
+    pub fn back(&mut self)
+        ensures { self.new ≡ record { now = self.old.was; was = self.old.was } }
+    {
+        for at in (0..self.trail.len()).rev() {
+            let change = &mut self.trail[at];
+            if let Some(place) = self.map.get_mut(&change.0) {
+                *place = change.1.take();
+            }
+        }
+        self.keep();
+    }
+
+    /// The entries, in the order of their keys.
+    pub fn entries(&self, alloc: Global) -> Result<Vec<(&K, &V)>, Memory>
+        ensures { IfOk result (λ rows. map (λ e. (e.0.now, e.1.now)) rows.items ≡ self.now.now) }
+    {
+        let mut rows = Vec::new(alloc);
+        for (key, place) in &self.map {
+            if let Some(value) = place {
+                rows.push((key, value)).map_err(|_| Memory)?;
+            }
+        }
+        Ok(rows)
+    }
+
+    /// The entries are in the order of their keys, and no key stands twice.
+    pub fn ordered(&self)
+        ensures { IsOrdered K.cmp self.now.now }
+    {
+        let _map = &self.map;
+    }
+}
