@@ -85,6 +85,19 @@ module _ {K X : Type 0} (R : K → K → Ordering) where
     by true ih f = let empty : p.1 ≡ None = cc in sym (ap (λ w. shown p.0 w (kept places)) empty)
     by false ih f = ap (λ z. shown p.0 p.1 z) (ih f)
 
+  -- only the place at k is changed, and has w now
+  pub record Changes (k : K) (w : Option X) (old new : List (K × Option X)) : Type 0 where
+    pub ordered : IsOrdered R new
+    pub at_each : (q : K) → at R q new ≡ cond (is_eq (R q k)) (Some w) (at R q old)
+
+  -- where no place is, nothing is set
+  pub set_absent : (k : K) (w : Option X) (places : List (K × Option X)) → at R k places ≡ None → set_at R k w places ≡ places
+  set_absent k w [] none = refl
+  set_absent k w (p ∷ places) none = by (is_eq (R k p.0)) (set_absent k w places) none where
+    by : (b : Bool) → (at R k places ≡ None → set_at R k w places ≡ places) → cond b (Some p.1) (at R k places) ≡ None → cond b ((p.0, w) ∷ places) (p ∷ set_at R k w places) ≡ p ∷ places
+    by true ih f = cc
+    by false ih f = ap (λ z. p ∷ z) (ih f)
+
   module _ (o : IsTotalOrder R) (exact : CmpEqualImpliesEq R) where
     pub at_set : (q k : K) (w : Option X) (places : List (K × Option X)) → is_some (at R k places) ≡ true → at R q (set_at R k w places) ≡ cond (is_eq (R q k)) (Some w) (at R q places)
     at_set q k w places there =
@@ -122,11 +135,6 @@ module _ {K X : Type 0} (R : K → K → Ordering) where
         ∙ (sym (content_led trail more here q) ∙ sym (at_kept q (led_back R trail more) (ordered_led trail more t))))))
 
     -- ---- one change, and its entry in the trail
-
-    -- only the place at k is changed, and has w now
-    pub record Changes (k : K) (w : Option X) (old new : List (K × Option X)) : Type 0 where
-      pub ordered : IsOrdered R new
-      pub at_each : (q : K) → at R q new ≡ cond (is_eq (R q k)) (Some w) (at R q old)
 
     stays : (b : Bool) (w : Option X) (z : Option (Option X)) → is_some z ≡ true → is_some (cond b (Some w) z) ≡ true
     stays true w z e = refl
@@ -201,3 +209,24 @@ module _ {K X : Type 0} (R : K → K → Ordering) where
       ordered = subst (IsStrictlySortedBy R) (sym (keys-set_value (is_at (R k)) places w)) s;
       at_each = λ q. at_set q k w places there;
     }
+
+    -- ---- the methods
+
+    -- the places and their trail after a change of the place at k
+    pub step : (trail old trail_then new : List (K × Option X)) (k again : K) (w v : Option X) → AreSound R trail old → Changes k w old new
+        → trail_then ≡ trail ++ (again, v) ∷ [] → again ≡ k → v ≡ content k old
+        → AreSound R trail_then new × (kept (led_back R trail_then new) ≡ kept (led_back R trail old))
+    step trail old trail_then new k again w v sound change more same was =
+        let e : trail_then ≡ trail ++ (k, content k old) ∷ [] = cc in
+        (subst (λ t. AreSound R t new) (sym e) (sound_then trail old new k (content k old) w sound change),
+        ap (λ t. kept (led_back R t new)) e ∙ was_then trail old new k w sound change)
+
+    -- where nothing is at the key, nothing is taken
+    pub kept_without : (k : K) (places : List (K × Option X)) → IsOrdered R places → at R k places ≡ None → kept places ≡ without R k (kept places)
+    kept_without k places s none =
+        same_lists R o exact (kept places) (without R k (kept places)) (ordered_kept places s)
+        (ordered_filter R o exact (λ e. not (is_eq (R e.0 k))) (kept places) (ordered_kept places s))
+        (λ q. by q (is_eq (R q k)) refl ∙ sym (at_filter R o exact (λ q. not (is_eq (R q k))) q (kept places))) where
+          by : (q : K) (b : Bool) → is_eq (R q k) ≡ b → at R q (kept places) ≡ cond (not b) (at R q (kept places)) None
+          by q true e = at_kept q places s ∙ ap option_flatten (subst (λ z. at R z places ≡ None) (sym (one_key R o exact q k e)) none)
+          by q false e = refl

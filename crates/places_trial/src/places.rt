@@ -2,7 +2,7 @@
 ghost use Rattle.std.specs.Prelude.{◌≡◌, [], IfOk, OnOk, OnErr, option_map, map};
 ghost use Rattle.std.specs.declared.cmp.Ordering.TheVariants.{Equal};
 ghost use Rattle.a1_base.specs.Maps.{at, with_entry, without, IsOrdered};
-ghost use Rattle.places_trial.specs.Places.{set_at};
+ghost use Rattle.places_trial.specs.Places.{kept, set_at};
 
 use a1_base::Memory;
 use std::alloc::Global;
@@ -31,6 +31,27 @@ impl<K: ExactOrd, V> Model for Places<K, V> {
     ghost view = { λ p. record { now = kept p.map.entries; was = kept (led_back K.cmp p.trail.items p.map.entries) } };
 
     ghost invariant = { λ p. AreSound K.cmp p.trail.items p.map.entries };
+}
+
+// Takes an empty place out.
+fn clear_at<K: ExactOrd + Drop, V: Drop>(map: &mut BTreeMap<K, Option<V>>, key: &K)
+    requires { IsOrdered K.cmp map.old.entries }
+    ensures same { kept map.new.entries ≡ kept map.old.entries }
+    ensures ordered { IsOrdered K.cmp map.new.entries }
+{
+    if let Some(None) = map.get(key) {
+        map.remove(key);
+    }
+}
+
+// Gives a place back what stood there before this change.
+fn undo<K: ExactOrd, V: Drop>(map: &mut BTreeMap<K, Option<V>>, change: &mut (K, Option<V>))
+    ensures entries { map.new.entries ≡ set_at K.cmp change.old.0 change.old.1 map.old.entries }
+    ensures key { change.new.0 ≡ change.old.0 }
+{
+    if let Some(place) = map.get_mut(&change.0) {
+        *place = change.1.take();
+    }
 }
 
 impl<K: ExactOrd + Drop, V: Drop> Places<K, V> {
@@ -93,9 +114,7 @@ impl<K: ExactOrd + Drop, V: Drop> Places<K, V> {
         ensures { self.new ≡ record { now = self.old.now; was = self.old.now } }
     {
         while let Some((key, _)) = self.trail.pop() {
-            if let Some(None) = self.map.get(&key) {
-                self.map.remove(&key);
-            }
+            clear_at(&mut self.map, &key);
         }
     }
 
@@ -104,10 +123,7 @@ impl<K: ExactOrd + Drop, V: Drop> Places<K, V> {
         ensures { self.new ≡ record { now = self.old.was; was = self.old.was } }
     {
         for at in (0..self.trail.len()).rev() {
-            let change = &mut self.trail[at];
-            if let Some(place) = self.map.get_mut(&change.0) {
-                *place = change.1.take();
-            }
+            undo(&mut self.map, &mut self.trail[at]);
         }
         self.keep();
     }
@@ -119,7 +135,8 @@ impl<K: ExactOrd + Drop, V: Drop> Places<K, V> {
         let mut rows = Vec::new(alloc);
         for (key, place) in &self.map {
             if let Some(value) = place {
-                rows.push((key, value)).map_err(|_| Memory)?;
+                rows.reserve(1)?;
+                rows.push_reserved((key, value));
             }
         }
         Ok(rows)
