@@ -1,5 +1,5 @@
 -- Ordered lists of entries as functions of their keys, where tied keys are one key.
-use Rattle.std.proofs.Common.{◌≡◌, List, [], ◌∷◌, Bool, true, false, cond, not, filter, Option, Some, None, is_some, sym, refl, ap, ◌∙◌, subst, true≢false, Ordering, Less, Equal, Greater, is_eq}
+use Rattle.std.proofs.Common.{◌≡◌, List, [], ◌∷◌, Bool, true, false, cond, filter, Option, Some, None, sym, refl, ap, ◌∙◌, subst, true≢false, Ordering, Less, Equal, Greater, is_eq}
 use Rattle.std.specs.Cmp.{IsTotalOrder, tied_itself}
 use Rattle.std.specs.Ordering.{match_ordering, ordering_reverse}
 use Rattle.std.specs.Map.{keys_of}

@@ -1,15 +1,19 @@
 -- Places and their trail as functions of the keys.
-use Rattle.std.proofs.Common.{◌≡◌, List, [], ◌∷◌, ◌++◌, Bool, true, false, cond, not, Option, Some, None, is_some, sym, refl, ap, ◌∙◌, subst, true≢false, Ordering, Less, is_eq}
+use Rattle.std.proofs.Common.{ℕ, zero, suc, ◌<◌, arith, take, length, get_or, map, ◌≡◌, List, [], ◌∷◌, ◌++◌, Bool, true, false, cond, not, Option, Some, None, is_some, sym, refl, ap, ◌∙◌, subst, Ordering, Less, is_eq}
+use Rattle.std.proofs.Math.ListN.{set}
+use Rattle.std.proofs.Math.Seq.{take-suc}
+use Rattle.std.proofs.lemmas.List.{take-set, map-append, append-nil}
+use Rattle.std.proofs.lemmas.List.Elements.{filter_map-append}
 use Rattle.std.specs.Cmp.{IsTotalOrder, eq_by_cmp_equiv}
 use Rattle.std.specs.Option.{option_flatten, option_map}
-use Rattle.std.specs.Map.{keys_of, set_value, remove_entry}
+use Rattle.std.specs.Map.{keys_of, remove_entry}
 use Rattle.std.specs.BTreeMap.{is_at}
 use Rattle.std.specs.List.{AllByRecursion, cons_option}
 use Rattle.std.specs.List.Sorted.{IsStrictlySortedBy}
 use Rattle.std.proofs.lemmas.Map.{lookup-set_value, keys-set_value}
 use Rattle.std.proofs.lemmas.Map.Lookups.{CmpEqualImpliesEq}
 use Rattle.a1_base.specs.Maps.{at, with_entry, without, IsOrdered}
-use Rattle.places_trial.specs.Places.{kept, set_at, led_back, ArePlaced, AreSound}
+use Rattle.places_trial.specs.Places.{filled, kept, set_at, led_back, ArePlaced, AreSound}
 use Rattle.places_trial.proofs.MapLemmas.{one_key, itself, at_with, at_filter, ordered_filter, ordered_with, none_again, ordered_rest, same_lists}
 
 -- the list, with a place's content in front of it
@@ -97,6 +101,40 @@ module _ {K X : Type 0} (R : K → K → Ordering) where
     by : (b : Bool) → (at R k places ≡ None → set_at R k w places ≡ places) → cond b (Some p.1) (at R k places) ≡ None → cond b ((p.0, w) ∷ places) (p ∷ set_at R k w places) ≡ p ∷ places
     by true ih f = cc
     by false ih f = ap (λ z. p ∷ z) (ih f)
+
+  -- ---- a step of the way back
+
+  placed_get : (trail places : List (K × Option X)) (i : ℕ) (d : K × Option X) → ArePlaced R trail places → i < length trail → is_some (at R (get_or trail i d).0 places) ≡ true
+  placed_get [] places i d there below = absurd (omega arith)
+  placed_get (u ∷ trail) places zero d there below = there.0
+  placed_get (u ∷ trail) places (suc i) d there below = placed_get trail places i d there.1 (omega arith)
+
+  placed_other : (trail places : List (K × Option X)) (i : ℕ) (u : K × Option X) → ArePlaced R trail places → is_some (at R u.0 places) ≡ true → ArePlaced R (set trail i u) places
+  placed_other [] places i u there here = tt
+  placed_other (t ∷ trail) places zero u there here = (here, there.1)
+  placed_other (t ∷ trail) places (suc i) u there here = (there.0, placed_other trail places i u there.1 here)
+
+  placed_set : (trail places : List (K × Option X)) (k : K) (w : Option X) → ArePlaced R trail places → ArePlaced R trail (set_at R k w places)
+  placed_set [] places k w there = tt
+  placed_set (u ∷ trail) places k w there = (has_set u.0 k w places ∙ there.0, placed_set trail places k w there.1)
+
+  pub sound_undone : (trail places new : List (K × Option X)) (i : ℕ) (t u : K × Option X) → AreSound R trail places → i < length trail
+      → t ≡ get_or trail i t → new ≡ set_at R t.0 t.1 places → u.0 ≡ t.0 → AreSound R (set trail i u) new
+  sound_undone trail places new i t u sound below is there same =
+      let here : is_some (at R u.0 places) ≡ true = ap (λ k. is_some (at R k places)) (same ∙ ap (λ z. z.0) is) ∙ placed_get trail places i t sound.placed below in
+      subst (λ n. AreSound R (set trail i u) n) (sym there)
+      (record {
+        ordered = subst (IsStrictlySortedBy R) (sym (keys-set_value (is_at (R t.0)) places t.1)) sound.ordered;
+        placed = placed_set (set trail i u) places t.0 t.1 (placed_other trail places i u sound.placed here);
+      })
+
+  pub led_undone : (trail places new : List (K × Option X)) (i : ℕ) (t u : K × Option X) → i < length trail → t ≡ get_or trail i t → new ≡ set_at R t.0 t.1 places
+      → led_back R (take i (set trail i u)) new ≡ led_back R (take (suc i) trail) places
+  led_undone trail places new i t u below is there =
+      ap (λ l. led_back R l new) (take-set trail i u)
+      ∙ (ap (led_back R (take i trail)) there
+      ∙ (sym (led_last (take i trail) t.0 t.1 places)
+      ∙ ap (λ l. led_back R l places) (ap (λ z. take i trail ++ z ∷ []) is ∙ sym (take-suc trail i t below))))
 
   module _ (o : IsTotalOrder R) (exact : CmpEqualImpliesEq R) where
     pub at_set : (q k : K) (w : Option X) (places : List (K × Option X)) → is_some (at R k places) ≡ true → at R q (set_at R k w places) ≡ cond (is_eq (R q k)) (Some w) (at R q places)
@@ -217,9 +255,10 @@ module _ {K X : Type 0} (R : K → K → Ordering) where
         → trail_then ≡ trail ++ (again, v) ∷ [] → again ≡ k → v ≡ content k old
         → AreSound R trail_then new × (kept (led_back R trail_then new) ≡ kept (led_back R trail old))
     step trail old trail_then new k again w v sound change more same was =
-        let e : trail_then ≡ trail ++ (k, content k old) ∷ [] = cc in
-        (subst (λ t. AreSound R t new) (sym e) (sound_then trail old new k (content k old) w sound change),
-        ap (λ t. kept (led_back R t new)) e ∙ was_then trail old new k w sound change)
+        let e : trail_then ≡ trail ++ (k, content k old) ∷ [] = cc in (
+          subst (λ t. AreSound R t new) (sym e) (sound_then trail old new k (content k old) w sound change),
+          ap (λ t. kept (led_back R t new)) e ∙ was_then trail old new k w sound change,
+        )
 
     -- where nothing is at the key, nothing is taken
     pub kept_without : (k : K) (places : List (K × Option X)) → IsOrdered R places → at R k places ≡ None → kept places ≡ without R k (kept places)
@@ -230,3 +269,23 @@ module _ {K X : Type 0} (R : K → K → Ordering) where
           by : (q : K) (b : Bool) → is_eq (R q k) ≡ b → at R q (kept places) ≡ cond (not b) (at R q (kept places)) None
           by q true e = at_kept q places s ∙ ap option_flatten (subst (λ z. at R z places ≡ None) (sym (one_key R o exact q k e)) none)
           by q false e = refl
+
+-- what a walk over the places has shown, after one more that shows this
+shown_more : {K X A B : Type 0} (row : A → K × X) (place : B → K × Option X) (rows more : List A) (passed : List B) (next : B)
+    → map row rows ≡ kept (map place passed) → map row more ≡ kept (place next ∷ []) → map row (rows ++ more) ≡ kept (map place (passed ++ next ∷ []))
+shown_more row place rows more passed next so_far this =
+    map-append row rows more
+    ∙ (ap (λ z. z ++ map row more) so_far
+    ∙ (ap (λ z. kept (map place passed) ++ z) this
+    ∙ (sym (filter_map-append filled (map place passed) (place next ∷ [])) ∙ ap kept (sym (map-append place passed (next ∷ []))))))
+
+-- the same where one row was put at the end of a list with room
+pub shown_one : {K X A B : Type 0} {this : A} {rows room more : List A} (row : A → K × X) (place : B → K × Option X) (passed : List B) (next : B)
+    → more ≡ room ++ this ∷ [] → room ≡ rows → map row rows ≡ kept (map place passed) → row this ∷ [] ≡ kept (place next ∷ []) → map row more ≡ kept (map place (passed ++ next ∷ []))
+shown_one {this = this} {rows = rows} row place passed next put same so_far fits =
+    ap (map row) (put ∙ ap (λ l. l ++ this ∷ []) same) ∙ shown_more row place rows (this ∷ []) passed next so_far fits
+
+-- and where the place is empty
+pub shown_none : {K X A B : Type 0} (row : A → K × X) (place : B → K × Option X) (rows : List A) (passed : List B) (next : B)
+    → map row rows ≡ kept (map place passed) → [] ≡ kept (place next ∷ []) → map row rows ≡ kept (map place (passed ++ next ∷ []))
+shown_none row place rows passed next so_far fits = sym (ap (map row) (append-nil rows)) ∙ shown_more row place rows [] passed next so_far fits

@@ -1,6 +1,5 @@
-use Rattle.std.proofs.Common.{◌≡◌, List, [], ◌∷◌, ◌++◌, Option, Some, sym, ap, ◌∙◌, subst}
+use Rattle.std.proofs.Common.{◌≡◌, [], ◌∷◌, ◌++◌, Some, sym, ap, ◌∙◌, subst}
 use Rattle.std.specs.Option.{option_flatten}
-use Rattle.a1_base.specs.Maps.{with_entry}
 use Rattle.places_trial.specs.Places.{kept, led_back, AreSound}
 use Rattle.places_trial.proofs.PlacesLemmas.{Changes, changes_with, now_put, step}
 use Rattle.places_trial.proofs.places.Places.put.Given.{Over}

@@ -1,6 +1,5 @@
-use Rattle.std.proofs.Common.{◌≡◌, List, [], ◌∷◌, ◌++◌, Option, None, Some, is_some, sym, refl, ap, ◌∙◌, subst}
+use Rattle.std.proofs.Common.{◌≡◌, [], ◌∷◌, ◌++◌, None, is_some, sym, refl, ap, ◌∙◌, subst}
 use Rattle.std.specs.Option.{option_flatten}
-use Rattle.a1_base.specs.Maps.{without}
 use Rattle.places_trial.specs.Places.{kept, led_back, AreSound, set_at}
 use Rattle.places_trial.proofs.PlacesLemmas.{Changes, changes_set, now_taken, kept_without, step}
 use Rattle.places_trial.proofs.places.Places.take.Given.{Over}
