@@ -1,1 +1,3 @@
 pub mod EffectLemmas
+pub mod MapLemmas
+pub mod PlacesLemmas

@@ -1,3 +1,4 @@
 pub mod Places
+pub mod ExactKeys
 pub mod Draft
 pub mod Trying

@@ -1,5 +1,5 @@
 //! Tied names are one name.
-ghost use Rattle.places_trial.specs.ExactKeys.{exact_names, exact_graphs, exact_types, exact_vertices, exact_edges};
+ghost use Rattle.graph_plain.specs.ExactKeys.{exact_names, exact_graphs, exact_types, exact_vertices, exact_edges};
 
 use crate::places::ExactOrd;
 use a1_base::Txt;

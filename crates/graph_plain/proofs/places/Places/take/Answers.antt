@@ -1,9 +1,9 @@
 use Rattle.std.proofs.Common.{◌≡◌, [], ◌∷◌, ◌++◌, None, is_some, sym, refl, ap, ◌∙◌, subst}
 use Rattle.std.specs.Option.{option_flatten}
-use Rattle.places_trial.specs.Places.{kept, led_back, AreSound, set_at}
-use Rattle.places_trial.proofs.PlacesLemmas.{Changes, changes_set, now_taken, kept_without, step}
-use Rattle.places_trial.proofs.places.Places.take.Given.{Over}
-use Rattle.places_trial.proofs.places.Places.take.Goals as goal
+use Rattle.graph_plain.specs.Places.{kept, led_back, AreSound, set_at}
+use Rattle.graph_plain.proofs.PlacesLemmas.{Changes, changes_set, now_taken, kept_without, step}
+use Rattle.graph_plain.proofs.places.Places.take.Given.{Over}
+use Rattle.graph_plain.proofs.places.Places.take.Goals as goal
 
 pub returns-in_default-clause-ok : goal.returns-in_default-clause-ok
 returns-in_default-clause-ok g c =

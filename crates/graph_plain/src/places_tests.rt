@@ -1,4 +1,4 @@
-use super::*;
+use crate::places::Places;
 use a1_base::Txt;
 use std::alloc::Global;
 use std::test::Fail;

@@ -1,6 +1,6 @@
 use Rattle.std.proofs.Common.{sym, ap, ◌∙◌}
-use Rattle.places_trial.proofs.PlacesLemmas.{set_absent}
-use Rattle.places_trial.proofs.places.undo.Goals as goal
+use Rattle.graph_plain.proofs.PlacesLemmas.{set_absent}
+use Rattle.graph_plain.proofs.places.undo.Goals as goal
 
 pub returns-in_default-clause-entries : goal.returns-in_default-clause-entries
 returns-in_default-clause-entries g c =

@@ -1,7 +1,7 @@
 use Rattle.std.proofs.Common.{◌≡◌, vec_len}
 use Rattle.a1_base.specs.Maps.{IsOrdered}
-use Rattle.places_trial.specs.Places.{kept}
-use Rattle.places_trial.proofs.places.Places.keep.Given as goal
+use Rattle.graph_plain.specs.Places.{kept}
+use Rattle.graph_plain.proofs.places.Places.keep.Given as goal
 
 abbrev pub invariant-loop-key : goal.invariant-loop-key
 invariant-loop-key g l = record {

@@ -1,7 +1,7 @@
 use Rattle.std.proofs.Common.{sym, ap, ◌∙◌}
 use Rattle.std.specs.Option.{option_flatten}
-use Rattle.places_trial.proofs.PlacesLemmas.{at_kept}
-use Rattle.places_trial.proofs.places.Places.get.Goals as goal
+use Rattle.graph_plain.proofs.PlacesLemmas.{at_kept}
+use Rattle.graph_plain.proofs.places.Places.get.Goals as goal
 
 pub returns-in-Some : goal.returns-in-Some
 returns-in-Some g c =

@@ -1,9 +1,9 @@
 use Rattle.std.proofs.Common.{◌≡◌, [], ◌∷◌, ◌++◌, Some, sym, ap, ◌∙◌, subst}
 use Rattle.std.specs.Option.{option_flatten}
-use Rattle.places_trial.specs.Places.{kept, led_back, AreSound}
-use Rattle.places_trial.proofs.PlacesLemmas.{Changes, changes_with, now_put, step}
-use Rattle.places_trial.proofs.places.Places.put.Given.{Over}
-use Rattle.places_trial.proofs.places.Places.put.Goals as goal
+use Rattle.graph_plain.specs.Places.{kept, led_back, AreSound}
+use Rattle.graph_plain.proofs.PlacesLemmas.{Changes, changes_with, now_put, step}
+use Rattle.graph_plain.proofs.places.Places.put.Given.{Over}
+use Rattle.graph_plain.proofs.places.Places.put.Goals as goal
 
 change : (g : Over) (c : goal.After-push_reserved g) → Changes g.K.Ord.cmp c.args.key (Some c.args.value) c.self.inside.map.entries c.insert.new.self.entries
 change g c =

@@ -13,8 +13,8 @@ use Rattle.std.specs.List.Sorted.{IsStrictlySortedBy}
 use Rattle.std.proofs.lemmas.Map.{lookup-set_value, keys-set_value}
 use Rattle.std.proofs.lemmas.Map.Lookups.{CmpEqualImpliesEq}
 use Rattle.a1_base.specs.Maps.{at, with_entry, without, IsOrdered}
-use Rattle.places_trial.specs.Places.{filled, kept, set_at, led_back, ArePlaced, AreSound}
-use Rattle.places_trial.proofs.MapLemmas.{one_key, itself, at_with, at_filter, ordered_filter, ordered_with, none_again, ordered_rest, same_lists}
+use Rattle.graph_plain.specs.Places.{filled, kept, set_at, led_back, ArePlaced, AreSound}
+use Rattle.graph_plain.proofs.MapLemmas.{one_key, itself, at_with, at_filter, ordered_filter, ordered_with, none_again, ordered_rest, same_lists}
 
 -- the list, with a place's content in front of it
 abbrev shown : {K X : Type 0} → K → Option X → List (K × X) → List (K × X)

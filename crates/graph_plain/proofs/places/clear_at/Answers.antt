@@ -1,7 +1,7 @@
 use Rattle.std.proofs.Common.{sym, ap, ◌∙◌, Some}
-use Rattle.places_trial.specs.Places.{kept}
-use Rattle.places_trial.proofs.PlacesLemmas.{kept_less}
-use Rattle.places_trial.proofs.places.clear_at.Goals as goal
+use Rattle.graph_plain.specs.Places.{kept}
+use Rattle.graph_plain.proofs.PlacesLemmas.{kept_less}
+use Rattle.graph_plain.proofs.places.clear_at.Goals as goal
 
 pub returns-in-Some-None-clause-same : goal.returns-in-Some-None-clause-same
 returns-in-Some-None-clause-same g c =

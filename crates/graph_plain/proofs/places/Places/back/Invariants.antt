@@ -1,6 +1,6 @@
 use Rattle.std.proofs.Common.{◌≡◌, ◌≤◌, take, length}
-use Rattle.places_trial.specs.Places.{kept, led_back, AreSound}
-use Rattle.places_trial.proofs.places.Places.back.Given as goal
+use Rattle.graph_plain.specs.Places.{kept, led_back, AreSound}
+use Rattle.graph_plain.proofs.places.Places.back.Given as goal
 
 abbrev pub invariant-loop-at : goal.invariant-loop-at
 invariant-loop-at g l = record {

@@ -1,8 +1,8 @@
 use Rattle.std.proofs.Common.{◌≡◌, ◌<◌, ◌-◌, suc, take, length, ap, ◌∙◌, arith}
 use Rattle.std.proofs.Math.ListN.{length-set}
-use Rattle.places_trial.specs.Places.{kept, led_back}
-use Rattle.places_trial.proofs.PlacesLemmas.{sound_undone, led_undone}
-use Rattle.places_trial.proofs.places.Places.back.Goals as goal
+use Rattle.graph_plain.specs.Places.{kept, led_back}
+use Rattle.graph_plain.proofs.PlacesLemmas.{sound_undone, led_undone}
+use Rattle.graph_plain.proofs.places.Places.back.Goals as goal
 
 pub loop-at-preserved : goal.loop-at-preserved
 loop-at-preserved g c =

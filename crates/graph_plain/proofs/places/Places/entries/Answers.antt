@@ -1,7 +1,7 @@
 use Rattle.std.proofs.Common.{[], ◌∷◌, sym, ap}
-use Rattle.places_trial.specs.Places.{kept}
-use Rattle.places_trial.proofs.PlacesLemmas.{shown_one, shown_none}
-use Rattle.places_trial.proofs.places.Places.entries.Goals as goal
+use Rattle.graph_plain.specs.Places.{kept}
+use Rattle.graph_plain.proofs.PlacesLemmas.{shown_one, shown_none}
+use Rattle.graph_plain.proofs.places.Places.entries.Goals as goal
 
 pub loop-key-preserved-in-Some-place : goal.loop-key-preserved-in-Some-place
 loop-key-preserved-in-Some-place g c =
