@@ -65,4 +65,11 @@ exact_edges a b e =
     let source = exact_values a.from b.from four.0 in
     let to_kind = exact_bytes a.to_kind b.to_kind five.0 in
     let target = exact_values a.to b.to five.1 in
-    λ i. record { graph = graph i; kind = kind i; from_kind = from_kind i; from = source i; to_kind = to_kind i; to = target i }
+    λ i. record {
+      graph = graph i;
+      kind = kind i;
+      from_kind = from_kind i;
+      from = source i;
+      to_kind = to_kind i;
+      to = target i;
+    }
