@@ -1,4 +1,6 @@
+pub mod ChangingLemmas
 pub mod EffectLemmas
 pub mod FindingLemmas
-pub mod ChangingLemmas
+pub mod MapLemmas
+pub mod PlacesLemmas
 pub mod TakingLemmas

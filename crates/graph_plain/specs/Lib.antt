@@ -1,4 +1,5 @@
 pub mod Places
+pub mod ExactKeys
 pub mod Draft
 pub mod Trying
 pub mod Taking

@@ -11,11 +11,14 @@ mod comparing;
 mod deciding;
 mod draft;
 mod effects;
+mod exact;
 mod finding;
 mod looking;
 mod places;
 mod plain;
 mod rows;
+#[cfg(test)]
+mod places_tests;
 #[cfg(test)]
 mod tests;
 
