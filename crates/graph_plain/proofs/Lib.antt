@@ -1,3 +1,4 @@
 pub mod EffectLemmas
 pub mod FindingLemmas
 pub mod ChangingLemmas
+pub mod RowLemmas
