@@ -4,3 +4,4 @@ pub mod FindingLemmas
 pub mod MapLemmas
 pub mod PlacesLemmas
 pub mod TakingLemmas
+pub mod RowLemmas
