@@ -1,5 +1,5 @@
 -- For the clauses of the readers of keys, values and changes.
-use Rattle.std.specs.Prelude.{ℕ, List, [], ◌∷◌, length, Bool, true, ◌&&◌, nat_le, ◌==◌, if◌then◌else◌, Option, Some, None, is_some, option_map, option_and_then}
+use Rattle.std.specs.Prelude.{ℕ, List, length, Bool, true, ◌&&◌, nat_le, ◌==◌, if◌then◌else◌, Option, Some, None, is_some, option_map, option_and_then}
 use Rattle.std.specs.Int.{w32, w64}
 use Rattle.a1_base.specs.Fronts.{Front, byte, number, both, made, tested, sized, whole, inside}
 use Rattle.a1_value.specs.Encoding.{key_front}
