@@ -16,7 +16,7 @@ is_level Less e = cc
 is_level Equal e = refl
 is_level Greater e = cc
 
-all_more : {K : Type 0} (P Q : K → Type 0) → ((k : K) → P k → Q k) → (ks : List K) → AllByRecursion P ks → AllByRecursion Q ks
+pub all_more : {K : Type 0} (P Q : K → Type 0) → ((k : K) → P k → Q k) → (ks : List K) → AllByRecursion P ks → AllByRecursion Q ks
 all_more P Q f [] all = tt
 all_more P Q f (k ∷ ks) all = (f k all.0, all_more P Q f ks all.1)
 

@@ -17,20 +17,20 @@ use Rattle.graph_plain.specs.ExactKeys.{exact_types, exact_vertices, exact_edges
 use Rattle.graph_plain.specs.Taking.{without_all}
 use Rattle.graph_plain.proofs.MapLemmas.{itself, one_key, all_more}
 
+abbrev named : {K : Type 0} → (K → K → Ordering) → K → List K → Bool
+named R k keys = list_any (λ x. is_eq (R k x)) keys
+
+none_left : {K X : Type 0} (R : K → K → Ordering) (keys : List K) → without_all {X = X} R keys [] ≡ []
+none_left R [] = refl
+none_left R (k ∷ keys) = none_left R keys
+
 module _ {K X : Type 0} (R : K → K → Ordering) where
-  abbrev is_named : K → List K → Bool
-  is_named k keys = list_any (λ x. is_eq (R k x)) keys
-
-  none_left : (keys : List K) → without_all {K} {X} R keys [] ≡ []
-  none_left [] = refl
-  none_left (k ∷ keys) = none_left keys
-
   -- the first entry goes where one of the keys is its own
-  first_of : (keys : List K) (e : K × X) (es : List (K × X)) → without_all R keys (e ∷ es) ≡ cond (is_named e.0 keys) (without_all R keys es) (e ∷ without_all R keys es)
+  first_of : (keys : List K) (e : K × X) (es : List (K × X)) → without_all R keys (e ∷ es) ≡ cond (named R e.0 keys) (without_all R keys es) (e ∷ without_all R keys es)
   first_of [] e es = refl
   first_of (k ∷ keys) e es = by (is_eq (R e.0 k)) (first_of keys e (without R k es)) where
-    by : (b : Bool) → without_all R keys (e ∷ without R k es) ≡ cond (is_named e.0 keys) (without_all R keys (without R k es)) (e ∷ without_all R keys (without R k es))
-        → without_all R keys (cond (not b) (e ∷ without R k es) (without R k es)) ≡ cond (b || is_named e.0 keys) (without_all R keys (without R k es)) (e ∷ without_all R keys (without R k es))
+    by : (b : Bool) → without_all R keys (e ∷ without R k es) ≡ cond (named R e.0 keys) (without_all R keys (without R k es)) (e ∷ without_all R keys (without R k es))
+        → without_all R keys (cond (not b) (e ∷ without R k es) (without R k es)) ≡ cond (b || named R e.0 keys) (without_all R keys (without R k es)) (e ∷ without_all R keys (without R k es))
     by true ih = refl
     by false ih = ih
 
@@ -39,9 +39,9 @@ module _ {K X : Type 0} (R : K → K → Ordering) where
     abbrev passing_keys : List (K × X) → List K
     passing_keys es = map (λ e. e.0) (filter (λ e. q e.0) es)
 
-    left : (keys : List K) (es : List (K × X)) → AllByRecursion (λ e. is_named e.0 keys ≡ q e.0) es → without_all R keys es ≡ filter (λ e. not (q e.0)) es
-    left keys [] all = none_left keys
-    left keys (e ∷ es) all = first_of keys e es ∙ by (is_named e.0 keys) (q e.0) all.0 (left keys es all.1) where
+    left : (keys : List K) (es : List (K × X)) → AllByRecursion (λ e. named R e.0 keys ≡ q e.0) es → without_all R keys es ≡ filter (λ e. not (q e.0)) es
+    left keys [] all = none_left R keys
+    left keys (e ∷ es) all = first_of keys e es ∙ by (named R e.0 keys) (q e.0) all.0 (left keys es all.1) where
       by : (b c : Bool) → b ≡ c → without_all R keys es ≡ filter (λ e. not (q e.0)) es
           → cond b (without_all R keys es) (e ∷ without_all R keys es) ≡ cond (not c) (e ∷ filter (λ e. not (q e.0)) es) (filter (λ e. not (q e.0)) es)
       by true true p ih = ih
@@ -51,25 +51,25 @@ module _ {K X : Type 0} (R : K → K → Ordering) where
 
     module _ (o : IsTotalOrder R) (exact : CmpEqualImpliesEq R) where
       -- one more entry among those whose keys are looked through
-      one_more : (k : K) (e : K × X) (es : List (K × X)) → is_named k (passing_keys es) ≡ q k → is_named k (passing_keys (e ∷ es)) ≡ q k
+      one_more : (k : K) (e : K × X) (es : List (K × X)) → named R k (passing_keys es) ≡ q k → named R k (passing_keys (e ∷ es)) ≡ q k
       one_more k e es h = by (q e.0) refl where
-        level : (b : Bool) → is_eq (R k e.0) ≡ b → q e.0 ≡ true → (b || is_named k (passing_keys es)) ≡ q k
+        level : (b : Bool) → is_eq (R k e.0) ≡ b → q e.0 ≡ true → (b || named R k (passing_keys es)) ≡ q k
         level true p t = sym (ap q (one_key R o exact k e.0 p) ∙ t)
         level false p t = h
-        by : (c : Bool) → q e.0 ≡ c → is_named k (map (λ e. e.0) (cond c (e ∷ filter (λ e. q e.0) es) (filter (λ e. q e.0) es))) ≡ q k
+        by : (c : Bool) → q e.0 ≡ c → named R k (map (λ e. e.0) (cond c (e ∷ filter (λ e. q e.0) es) (filter (λ e. q e.0) es))) ≡ q k
         by true t = level (is_eq (R k e.0)) refl t
         by false t = h
 
       -- a key that does not pass is none of them
-      absent : (k : K) (es : List (K × X)) → q k ≡ false → is_named k (passing_keys es) ≡ q k
+      absent : (k : K) (es : List (K × X)) → q k ≡ false → named R k (passing_keys es) ≡ q k
       absent k [] f = sym f
       absent k (e ∷ es) f = one_more k e es (absent k es f)
 
-      own : (e : K × X) (es : List (K × X)) (c : Bool) → q e.0 ≡ c → is_named e.0 (passing_keys (e ∷ es)) ≡ q e.0
+      own : (e : K × X) (es : List (K × X)) (c : Bool) → q e.0 ≡ c → named R e.0 (passing_keys (e ∷ es)) ≡ q e.0
       own e es true t = rw (t, itself R o e.0) refl
       own e es false t = absent e.0 (e ∷ es) t
 
-      each : (es : List (K × X)) → AllByRecursion (λ e. is_named e.0 (passing_keys es) ≡ q e.0) es
+      each : (es : List (K × X)) → AllByRecursion (λ e. named R e.0 (passing_keys es) ≡ q e.0) es
       each [] = tt
       each (e ∷ es) = (own e es (q e.0) refl, all_more _ _ (λ x h. one_more x.0 e es h) es (each es))
 

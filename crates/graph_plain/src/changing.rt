@@ -4,7 +4,7 @@ ghost use Rattle.type_schema.specs.declared.rows.StoreKey.TheVariants as key;
 ghost use Rattle.type_schema.specs.Rows.{put_at, gone_at, in_key_order};
 ghost use Rattle.request_reader.specs.declared.operation.Action.TheVariants as act;
 ghost use Rattle.request_reader.specs.Operations.{changes};
-ghost use Rattle.graph_plain.specs.Draft.{now_of};
+ghost use Rattle.graph_plain.specs.Draft.{now_of, HasNext};
 
 use crate::draft::Draft;
 use crate::finding::edges_of;
@@ -65,12 +65,9 @@ fn add_graph(
     name: &GraphName,
     number: u64,
 ) -> Result<Vec<RowChange>, Memory>
+    requires { HasNext (act.AddGraph name.now number) }
     ensures { IfOk result (λ rows. rows.items ≡ changes (now_of draft.now) (act.AddGraph name.now number)) }
 {
-    // `HasNext` of each action that is decided says that this never comes.
-    let Some(next) = number.checked_add(1) else {
-        return Err(Memory);
-    };
     let mut rows = put(
         alloc,
         StoreKey::Graph(name.copy(alloc)?),
@@ -78,7 +75,7 @@ fn add_graph(
     )?;
     rows.push(RowChange {
         key: StoreKey::Counter,
-        value: Some(StoreValue::Number(next)),
+        value: Some(StoreValue::Number(number + 1)),
     })?;
     Ok(rows)
 }
@@ -100,6 +97,7 @@ fn drop_vertex(alloc: Global, draft: &Draft, name: &VertexName) -> Result<Vec<Ro
 /// The rows that the action changes, with copies of what it holds. `Memory` comes for want of memory alone.
 #[tactic(auto, unfolding(request_reader::specs::Operations::changes))]
 pub fn changes_of(alloc: Global, draft: &Draft, action: &Action) -> Result<Vec<RowChange>, Memory>
+    requires { HasNext action.now }
     ensures { IfOk result (λ rows. rows.items ≡ changes (now_of draft.now) action.now) }
 {
     match action {

@@ -7,7 +7,6 @@
 
 mod acting;
 mod changing;
-mod comparing;
 mod deciding;
 mod draft;
 mod effects;

@@ -6,6 +6,6 @@ abbrev pub invariant-loop-key : goal.invariant-loop-key
 invariant-loop-key g l = record {
   can : (goal.iterator-loop-key g).can_next l.key-iterator;
   ends : (goal.iterator-loop-key g).is_finite l.key-iterator;
-  now : l.places.now ≡ without_all g.K.cmp l.yielded l.fn.places.now;
+  now : l.places.now ≡ without_all g.K.Ord.cmp l.yielded l.fn.places.now;
   was : l.places.was ≡ l.fn.places.was;
 }
