@@ -1,10 +1,12 @@
-//! The text of rows.
+//! The text of rows and of refusals.
 use crate::{Reply, text};
-use a1_base::{Bin, Txt};
+use a1_base::{Bin, Memory, Txt};
 use a1_value::Value;
 use request_reader::Row;
 use sqlite_items::Items;
+use std::alloc::Global;
 use std::test::Fail;
+use type_schema::{Refusal, Word};
 
 #[test]
 fn a_row_is_printed_by_name(rt: HostRuntime) -> Result<(), Fail> {
@@ -29,5 +31,23 @@ fn a_row_is_printed_by_name(rt: HostRuntime) -> Result<(), Fail> {
         "{\"at\":18446744073709551615,\"rows\":[{\"id\":\"a\\\"b\",\"key\":\"00ff\",\"n\":-7}]}";
     let printed = text(alloc, &reply).expect(&rt, "ample memory");
     assert!(rt; printed.as_slice() == wanted.as_bytes());
+    Ok(())
+}
+
+// The text of a refusal at the stamp 3.
+fn refused(alloc: Global, word: Word, attr: Option<Txt>) -> Result<Bin, Memory> {
+    let refusal = Refusal { word, attr };
+    text(alloc, &Reply::Refused { at: 3, refusal })
+}
+
+#[test]
+fn a_refusal_names_its_attribute(rt: HostRuntime) -> Result<(), Fail> {
+    let alloc = rt.alloc();
+    let plain = refused(alloc, Word::NoVertex, None)?;
+    let wanted: &str = "{\"at\":3,\"refused\":\"no_vertex\"}";
+    assert!(rt; plain.as_slice() == wanted.as_bytes());
+    let named = refused(alloc, Word::Long, Some(Txt::from_text(alloc, "id")?))?;
+    let wanted: &str = "{\"at\":3,\"attr\":\"id\",\"refused\":\"long\"}";
+    assert!(rt; named.as_slice() == wanted.as_bytes());
     Ok(())
 }
