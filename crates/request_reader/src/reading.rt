@@ -1,7 +1,6 @@
 //! Reading a line as a request, over its JSON tree.
 ghost use Rattle.std.specs.Prelude.{◌≡◌, option_map};
 ghost use Rattle.std.specs.List.{list_all};
-ghost use Rattle.a1_json.specs.Fields.{member_of};
 ghost use Rattle.request_reader.specs.Request.{is_text, has_two, name_in, name_asked, operation, operations, operation_fits, operation_named, said_by, all_said, do_of, is_not_built, request_of, Reads};
 
 use crate::Op;

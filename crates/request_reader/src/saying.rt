@@ -1,12 +1,11 @@
 //! What an operation says, out of its object.
-ghost use Rattle.std.specs.Prelude.{◌≡◌, codes, map, option_map, option_and_then, IfOk, Ok};
+ghost use Rattle.std.specs.Prelude.{◌≡◌, codes, option_map, option_and_then, IfOk, Ok};
 ghost use Rattle.a1_json.specs.Fields.{member_of, as_text, as_int, as_flag};
-ghost use Rattle.type_schema.specs.declared.rows.TypeSchema.TheVariants.{OfVertices, OfEdges};
 ghost use Rattle.type_schema.specs.Names.{graph_whole};
 ghost use Rattle.type_schema.specs.Refusals.{need};
 ghost use Rattle.request_reader.specs.declared.forms.Verb.TheVariants as verbs;
 ghost use Rattle.request_reader.specs.declared.request.BadWord.TheVariants as bad;
-ghost use Rattle.request_reader.specs.Request.{text_in, graph_in, graph_of, text_of, number_in, given_of, given_in, given_members, fields_at, values_in, end_of, end_in, kind_named, is_indexed, attr_of, attrs_of, ruled, attrs_in, type_of, said, Reads};
+ghost use Rattle.request_reader.specs.Request.{text_in, graph_in, number_in, given_of, given_in, given_members, fields_at, values_in, end_of, end_in, kind_named, is_indexed, attr_of, attrs_of, ruled, attrs_in, said, Reads};
 
 use crate::forms::Verb;
 use crate::naming::text_of;
