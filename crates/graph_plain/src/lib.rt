@@ -9,6 +9,8 @@ mod acting;
 mod changing;
 mod comparing;
 mod deciding;
+#[cfg(test)]
+mod deciding_tests;
 mod draft;
 mod effects;
 mod exact;
