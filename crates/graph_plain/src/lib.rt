@@ -8,6 +8,8 @@
 mod acting;
 mod changing;
 mod deciding;
+#[cfg(test)]
+mod deciding_tests;
 mod draft;
 mod effects;
 mod exact;
