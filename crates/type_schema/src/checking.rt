@@ -1,5 +1,5 @@
 //! From a request's members to a record.
-ghost use Rattle.std.specs.Prelude.{◌≡◌, Ok, Err, IfOk, IsTrue, option_map, option_and_then};
+ghost use Rattle.std.specs.Prelude.{◌≡◌, Ok, IfOk, IsTrue, option_map, option_and_then};
 ghost use Rattle.a1_value.specs.Encoding.{value_size};
 ghost use Rattle.type_schema.specs.declared.refusal.Word.TheVariants as word;
 ghost use Rattle.type_schema.specs.Refusals.{refused_at, need, Gives};

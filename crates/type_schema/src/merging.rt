@@ -1,5 +1,5 @@
 //! Records that a set or an add leaves.
-ghost use Rattle.std.specs.Prelude.{◌≡◌, ◌∷◌, ◌++◌, [], Ok, Err, OnOk, IfOk, MatchOption, IsTrue};
+ghost use Rattle.std.specs.Prelude.{◌≡◌, ◌∷◌, ◌++◌, [], Ok, OnOk, IfOk, MatchOption, IsTrue};
 ghost use Rattle.type_schema.specs.declared.refusal.Word.TheVariants as word;
 ghost use Rattle.type_schema.specs.Refusals.{refused_at, need, unless_at, passing, Gives};
 ghost use Rattle.type_schema.specs.Schemas.{fits, behind, member, unknown, value_over, made_over, if_short, merged, sum_in, added_to, added};
