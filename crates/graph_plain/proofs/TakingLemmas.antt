@@ -1,5 +1,5 @@
 -- Taking out, one after another, the entries at all keys that pass a test.
-use Rattle.std.proofs.Common.{◌≡◌, ℕ, List, [], ◌∷◌, map, Bool, true, false, not, ◌||◌, cond, nat_eq, filter, sym, refl, ap, ◌∙◌, true≢false, Ordering, is_eq}
+use Rattle.std.proofs.Common.{◌≡◌, ℕ, List, [], ◌∷◌, ◌++◌, map, Bool, true, false, not, ◌||◌, cond, nat_eq, filter, sym, refl, ap, ◌∙◌, true≢false, Ordering, is_eq}
 use Rattle.std.specs.Cmp.{IsTotalOrder, nat_cmp_total, on_total, then_total}
 use Rattle.std.specs.Cmp.Lexicographic.{nat_list_cmp_total}
 use Rattle.std.specs.List.{AllByRecursion, list_any}
@@ -23,6 +23,11 @@ named R k keys = list_any (λ x. is_eq (R k x)) keys
 none_left : {K X : Type 0} (R : K → K → Ordering) (keys : List K) → without_all {X = X} R keys [] ≡ []
 none_left R [] = refl
 none_left R (k ∷ keys) = none_left R keys
+
+-- one key more
+pub without_last : {K X : Type 0} (R : K → K → Ordering) (keys : List K) (k : K) (es : List (K × X)) → without_all R (keys ++ k ∷ []) es ≡ without R k (without_all R keys es)
+without_last R [] k es = refl
+without_last R (x ∷ keys) k es = without_last R keys k (without R x es)
 
 module _ {K X : Type 0} (R : K → K → Ordering) where
   -- the first entry goes where one of the keys is its own

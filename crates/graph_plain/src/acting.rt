@@ -27,18 +27,17 @@ fn take_all<K: ExactOrd + Drop, V: Drop>(
 }
 
 // Takes a vertex with its edges out.
-#[tactic(auto, using(crate::proofs::TakingLemmas::touching_taken))]
 fn drop_vertex(alloc: Global, draft: &mut Draft, name: VertexName) -> Result<(), Memory>
     ensures ok { OnOk result (now_of draft.new ≡ without_vertex (now_of draft.old) name) }
     ensures was { was_of draft.new ≡ was_of draft.old }
 {
     let edges = edges_of(alloc, draft, &name)?;
     take_all(&mut draft.edges, edges)?;
-    draft.vertices.take(name)
+    draft.vertices.take(name)?;
+    Ok(())
 }
 
 // Takes the graph of this number with all that it has out.
-#[tactic(auto, using(crate::proofs::TakingLemmas::types_taken, crate::proofs::TakingLemmas::vertices_taken, crate::proofs::TakingLemmas::edges_taken))]
 fn drop_graph(
     alloc: Global,
     draft: &mut Draft,
@@ -54,7 +53,8 @@ fn drop_graph(
     take_all(&mut draft.types, types)?;
     take_all(&mut draft.vertices, vertices)?;
     take_all(&mut draft.edges, edges)?;
-    draft.graphs.take(name)
+    draft.graphs.take(name)?;
+    Ok(())
 }
 
 /// Does the action. After `Memory`, which comes for want of memory alone, the graph is some other one, and can still go
