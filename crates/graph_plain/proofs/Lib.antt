@@ -1,4 +1,5 @@
 pub mod ChangingLemmas
+pub mod ComparingLemmas
 pub mod EffectLemmas
 pub mod FindingLemmas
 pub mod MapLemmas

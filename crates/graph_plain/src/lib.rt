@@ -7,6 +7,7 @@
 
 mod acting;
 mod changing;
+mod comparing;
 mod deciding;
 #[cfg(test)]
 mod deciding_tests;

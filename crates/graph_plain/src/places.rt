@@ -1,9 +1,10 @@
 //! An ordered map that can go back to how it was, and needs no memory for that.
-ghost use Rattle.std.specs.Prelude.{◌≡◌, [], IfOk, OnOk, OnErr, option_map, map};
+ghost use Rattle.std.specs.Prelude.{◌≡◌, [], IfOk, OnOk, OnErr, Decides, option_map, map};
 ghost use Rattle.std.specs.declared.cmp.Ordering.TheVariants.{Equal};
 ghost use Rattle.a1_base.specs.Maps.{at, with_entry, without, IsOrdered};
 ghost use Rattle.graph_plain.specs.Places.{kept, set_at};
 
+use crate::comparing::same_entries;
 use a1_base::Memory;
 use std::alloc::Global;
 use std::collections::BTreeMap;
@@ -12,6 +13,13 @@ use std::marker::Model;
 /// An order whose ties are one and the same key.
 pub trait ExactOrd: Ord {
     ghost exact: { (a b : Self) → Self.cmp a b ≡ Equal → a ≡ b };
+}
+
+/// Values of which any two can be told apart.
+pub trait ExactEq {
+    /// Whether both are the same value.
+    fn same(&self, other: &Self) -> bool
+        ensures { Decides result (self.now ≡ other.now) };
 }
 
 /// A map in the order of its keys, with the entries as they stand and as they stood when they were last kept.
@@ -150,5 +158,14 @@ impl<K: ExactOrd + Drop, V: Drop> Places<K, V> {
         ensures { IsOrdered K.cmp self.now.now }
     {
         let _map = &self.map;
+    }
+}
+
+impl<K: ExactOrd, V: ExactEq> Places<K, V> {
+    /// Whether both have the same entries.
+    pub fn equal(&self, other: &Places<K, V>) -> bool
+        ensures { Decides result (self.now.now ≡ other.now.now) }
+    {
+        same_entries(self.map.iter(), other.map.iter())
     }
 }

@@ -1,11 +1,12 @@
 //! The plain graph.
-ghost use Rattle.std.specs.Prelude.{◌≡◌, IfOk, OnErr, option_map};
+ghost use Rattle.std.specs.Prelude.{◌≡◌, Decides, IfOk, OnErr, option_map};
 ghost use Rattle.std.specs.Result.{result_map_both};
 ghost use Rattle.type_schema.specs.Graph.{vertex_at, opening};
 ghost use Rattle.type_schema.specs.Rows.{rows_as_changes};
 ghost use Rattle.request_reader.specs.Operations.{effect};
 ghost use Rattle.graph_plain.specs.Trying.{Reaches};
 
+use crate::comparing::same_graph;
 use crate::draft::Draft;
 use crate::effects::effect_of;
 use crate::rows::rows_of;
@@ -73,5 +74,12 @@ impl Plain {
         ensures { IfOk result (λ rows. rows.items ≡ rows_as_changes self.now) }
     {
         rows_of(alloc, &self.draft)
+    }
+
+    /// Whether both are the same graph. It takes time in what both have, and no memory.
+    pub fn equal(&self, other: &Plain) -> bool
+        ensures { Decides result (self.now ≡ other.now) }
+    {
+        same_graph(&self.draft, &other.draft)
     }
 }
