@@ -1,7 +1,7 @@
 -- Values and entries that can be told apart.
-use Rattle.std.proofs.Common.{◌≡◌, Bool, true, false, sym, ap, subst, Ordering, Less, Equal, Greater, is_eq}
+use Rattle.std.proofs.Common.{◌≡◌, true, subst, Ordering, is_eq}
 use Rattle.std.specs.Bool.{Decides}
-use Rattle.std.specs.Cmp.{IsTotalOrder, tied_itself}
+use Rattle.std.specs.Cmp.{IsTotalOrder}
 use Rattle.std.proofs.lemmas.Map.Lookups.{CmpEqualImpliesEq}
 use Rattle.a1_value.specs.declared.value.Value.{Value}
 use Rattle.a1_value.specs.Order.{value_order}
