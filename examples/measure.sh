@@ -1,6 +1,7 @@
 #!/bin/sh
 # Times the built program, and takes its peak memory: on lines that are no request, 16 and 32 MiB of each kind, on puts of
-# different names, and on events of transactions by 35 actors. Of five runs the middle one counts. Needs /usr/bin/time (GNU time) and awk.
+# different vertices, on requests of 1,000 operations on 100,000 vertices, and on events of transactions by 35 actors. Of five
+# runs the middle one counts. Needs /usr/bin/time (GNU time) and awk.
 # Usage: sh examples/measure.sh [PROGRAM]
 program=${1:-crates/a1/out/a1}
 folder=$(mktemp -d) || exit 1
@@ -27,9 +28,32 @@ lines_of() {
 lines_of "empty requests" "1 "
 lines_of "requests that are no JSON" "1 hello"
 lines_of "requests of 1,000 bytes that are no JSON" "1 $(head -c 998 /dev/zero | tr '\0' x)"
-for count in 100000 200000; do
-    awk -v count="$count" 'BEGIN { for (i = 0; i < count; i++) printf "1 {\"do\":[{\"put\":{\"graph\":\"sys/names\",\"type\":\"name\",\"v\":{\"id\":\"n%d\"}}}]}\n", (i * 7919) % 1000003 }' > "$folder/script"
-    measure "puts of different names"
+# A graph with a type of vertices of two attributes, and then as many puts, one a line.
+puts='function key(i) { return (i * 7919) % 1000003 }
+function put(i) { return "{\"put\":{\"graph\":\"t/g\",\"type\":\"film\",\"v\":{\"id\":\"f" key(i) "\",\"year\":" i "}}}" }
+function set(i) { return "{\"set\":{\"graph\":\"t/g\",\"type\":\"film\",\"id\":\"f" key(i) "\",\"v\":{\"year\":" i + 1 "}}}" }
+BEGIN {
+    print "1 {\"do\":[{\"create_tenant\":\"t\"},{\"create_graph\":\"t/g\"}]}"
+    print "1 {\"do\":[{\"create_vertex_type\":{\"graph\":\"t/g\",\"type\":\"film\",\"attrs\":[{\"name\":\"id\",\"kind\":\"text\"},{\"name\":\"year\",\"kind\":\"int\"}]}}]}"
+    for (i = 0; i < count; i++) print "1 {\"do\":[" put(i) "]}"
+    for (r = 0; r < loads; r++) {
+        printf "1 {\"do\":["
+        for (i = 0; i < 1000; i++) printf "%s%s", (i ? "," : ""), put(r * 1000 + i)
+        print "]}"
+    }
+    for (r = 0; r < sets; r++) {
+        printf "1 {\"do\":["
+        for (i = 0; i < 1000; i++) printf "%s%s", (i ? "," : ""), set((i * 100 + r) % 100000)
+        print "]}"
+    }
+}'
+for count in 10000 20000 100000 200000; do
+    awk -v count="$count" "$puts" > "$folder/script"
+    measure "puts of different vertices"
+done
+for sets in 0 100; do
+    awk -v loads=100 -v sets="$sets" "$puts" > "$folder/script"
+    measure "100,000 vertices, and then $sets requests of 1,000 sets each"
 done
 
 # Rounds of 35 transactions side by side: each reads an object, locks another, and installs it where what it read still

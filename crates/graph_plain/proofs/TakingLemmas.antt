@@ -61,6 +61,7 @@ module _ {K X : Type 0} (R : K → K → Ordering) where
         level : (b : Bool) → is_eq (R k e.0) ≡ b → q e.0 ≡ true → (b || named R k (passing_keys es)) ≡ q k
         level true p t = sym (ap q (one_key R o exact k e.0 p) ∙ t)
         level false p t = h
+
         by : (c : Bool) → q e.0 ≡ c → named R k (map (λ e. e.0) (cond c (e ∷ filter (λ e. q e.0) es) (filter (λ e. q e.0) es))) ≡ q k
         by true t = level (is_eq (R k e.0)) refl t
         by false t = h

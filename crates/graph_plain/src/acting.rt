@@ -38,12 +38,7 @@ fn drop_vertex(alloc: Global, draft: &mut Draft, name: VertexName) -> Result<(),
 }
 
 // Takes the graph of this number with all that it has out.
-fn drop_graph(
-    alloc: Global,
-    draft: &mut Draft,
-    name: GraphName,
-    number: u64,
-) -> Result<(), Memory>
+fn drop_graph(alloc: Global, draft: &mut Draft, name: GraphName, number: u64) -> Result<(), Memory>
     ensures ok { OnOk result (now_of draft.new ≡ without_graph (now_of draft.old) name number) }
     ensures was { was_of draft.new ≡ was_of draft.old }
 {

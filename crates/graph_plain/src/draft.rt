@@ -82,7 +82,9 @@ impl Draft {
         let mut draft = Draft::empty(alloc);
         let system = Txt::from_text(alloc, SYSTEM_TENANT)?;
         draft.tenants.put(system.copy(alloc)?, system, ())?;
-        draft.graphs.put(names_graph(alloc)?, names_graph(alloc)?, NAMES_NUMBER)?;
+        draft
+            .graphs
+            .put(names_graph(alloc)?, names_graph(alloc)?, NAMES_NUMBER)?;
         draft.types.put(names_type(alloc)?, names_type(alloc)?, names_schema(alloc)?)?;
         Ok(draft)
     }

@@ -95,11 +95,7 @@ fn step(
 
 /// Does the operations, one behind the other, and gives the rows that they change. After a fault the graph is some other
 /// one, and can still go back.
-pub fn effect_of(
-    alloc: Global,
-    draft: &mut Draft,
-    ops: &[Op],
-) -> Result<Vec<RowChange>, GraphFault>
+pub fn effect_of(alloc: Global, draft: &mut Draft, ops: &[Op]) -> Result<Vec<RowChange>, GraphFault>
     ensures exact { Reaches (result_map_both (λ rows. rows.items) (λ f. f) result) (now_of draft.new) (effect (now_of draft.old) ops.now) }
     ensures was { was_of draft.new ≡ was_of draft.old }
 {

@@ -17,10 +17,10 @@ mod exact;
 mod finding;
 mod looking;
 mod places;
-mod plain;
-mod rows;
 #[cfg(test)]
 mod places_tests;
+mod plain;
+mod rows;
 #[cfg(test)]
 mod tests;
 
