@@ -3,7 +3,7 @@ use Rattle.std.proofs.Common.{◌≡◌, ℕ, ◌+◌, ◌<◌, ◌≤◌, List,
 use Rattle.std.specs.Prelude.{sum_by}
 use Rattle.std.proofs.lemmas.Bool.Decides.{nat_tests}
 use Rattle.std.proofs.lemmas.List.{drop_all}
-use Rattle.std.proofs.lemmas.List.Sums.{sum_by-append, sum_by_push}
+use Rattle.std.proofs.lemmas.List.Sums.{sum_by_push}
 use Rattle.a1_base.specs.declared.limits.TheConstants.{CHANGE_LIMIT, CHANGE_BYTES_LIMIT}
 use Rattle.type_schema.specs.declared.refusal.Refusal.{Refusal}
 use Rattle.type_schema.specs.declared.refusal.Word.TheVariants as word
@@ -32,13 +32,6 @@ too_big before row room all over =
     let sum = sum_by_push item_size before row in
     let more : CHANGE_BYTES_LIMIT < sum_by item_size (before ++ row ∷ []) = omega (arith, sum, all, over) in
     grind (arith, nat_tests, more)
-
--- with more rows behind it, too much is still too much
-pub still_large : (rows more : List RowChange) → is_large rows ≡ true → is_large (rows ++ more) ≡ true
-still_large rows more large =
-    let sum = sum_by-append item_size rows more in
-    let count = length-append rows more in
-    grind (arith, nat_tests, sum, count, large)
 
 -- ---- one operation more
 
