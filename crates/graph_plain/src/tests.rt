@@ -1,0 +1,6 @@
+//! Requests over the graph that a database begins with.
+mod each_operation;
+mod going_back;
+mod limits;
+mod making;
+mod showing;

@@ -1,0 +1,132 @@
+//! The most that a request may change.
+use super::making::{
+    SINCE, create_graph, create_tenant, create_vertex_type, drop_vertex, int, link, person, put,
+    since, unlink,
+};
+use super::showing::begun;
+use crate::Plain;
+use a1_base::Txt;
+use a1_value::Given;
+use request_reader::Op;
+use std::alloc::{AllocError, Global};
+use std::test::Fail;
+use type_schema::{GraphFault, Kind, Word};
+
+// How many rows the request changes: none where it is too large.
+fn changed(alloc: Global, plain: &mut Plain, ops: &[Op]) -> Result<Option<usize>, GraphFault> {
+    match plain.effect(alloc, ops) {
+        Ok(rows) => Ok(Some(rows.len())),
+        Err(GraphFault::Refused(refusal)) if refusal.word == Word::Large => Ok(None),
+        Err(fault) => Err(fault),
+    }
+}
+
+// ---- rows
+
+// Vertices of the keys below this one.
+fn persons(alloc: Global, below: i64) -> Result<Vec<Op>, AllocError> {
+    let mut ops = Vec::new(alloc);
+    for id in 0..below {
+        ops.push(put(alloc, person(alloc, id, 30, "")?)?)?;
+    }
+    Ok(ops)
+}
+
+// Edges from the vertex 0 to those of the keys below this one, but to itself.
+fn spokes(alloc: Global, below: i64) -> Result<Vec<Op>, AllocError> {
+    let mut ops = Vec::new(alloc);
+    for id in 1..below {
+        ops.push(link(alloc, "e", 0, id, since(alloc, 7)?)?)?;
+    }
+    Ok(ops)
+}
+
+#[test]
+fn a_request_changes_1024_rows(rt: HostRuntime) -> Result<(), Fail> {
+    let alloc = rt.alloc();
+    let mut plain = begun(alloc)?;
+    assert_eq!(rt; changed(alloc, &mut plain, &persons(alloc, 1_025)?)?, None);
+    assert_eq!(rt;
+        changed(alloc, &mut plain, &persons(alloc, 1_024)?)?,
+        Some(1_024)
+    );
+    Ok(())
+}
+
+#[test]
+fn a_vertex_with_1023_edges_is_dropped(rt: HostRuntime) -> Result<(), Fail> {
+    let alloc = rt.alloc();
+    let mut plain = begun(alloc)?;
+    changed(alloc, &mut plain, &persons(alloc, 1_024)?)?;
+    changed(alloc, &mut plain, &spokes(alloc, 1_024)?)?;
+    let dropping = vec![in alloc; drop_vertex(alloc, 0)?]?;
+    let looping = vec![in alloc; link(alloc, "e", 0, 0, since(alloc, 7)?)?]?;
+    changed(alloc, &mut plain, &looping)?;
+    assert_eq!(rt; changed(alloc, &mut plain, &dropping)?, None);
+    let cutting = vec![in alloc; unlink(alloc, "e", 0, 0)?]?;
+    changed(alloc, &mut plain, &cutting)?;
+    assert_eq!(rt; changed(alloc, &mut plain, &dropping)?, Some(1_024));
+    Ok(())
+}
+
+// ---- bytes
+
+const WIDE: &[(&str, Kind)] = &[
+    ("id", Kind::Int),
+    ("a", Kind::Text),
+    ("b", Kind::Text),
+    ("c", Kind::Text),
+    ("d", Kind::Text),
+];
+
+fn lettered(alloc: Global, name: &str, size: usize) -> Result<(Txt, Given), AllocError> {
+    let mut text = String::new(alloc);
+    for _ in 0..size {
+        text.push('x')?;
+    }
+    let given = Given::Text(Txt::from_string(text));
+    Ok((Txt::from_text(alloc, name)?, given))
+}
+
+// A vertex whose row takes 38 bytes beside its record of 10, 3 times 4,084, and 5 more than this size: 16,384 bytes,
+// where this size is 4,079.
+fn wide(alloc: Global, id: i64, size: usize) -> Result<Op, AllocError> {
+    let mut members = Vec::new(alloc);
+    members.push(lettered(alloc, "a", 4_079)?)?;
+    members.push(lettered(alloc, "b", 4_079)?)?;
+    members.push(lettered(alloc, "c", 4_079)?)?;
+    members.push(lettered(alloc, "d", size)?)?;
+    members.push(int(alloc, "id", id)?)?;
+    put(alloc, members)
+}
+
+// 64 vertices: 63 whose rows take 16,384 bytes, and one of this size.
+fn wide_ones(alloc: Global, size: usize) -> Result<Vec<Op>, AllocError> {
+    let mut ops = Vec::new(alloc);
+    for id in 1..64 {
+        ops.push(wide(alloc, id, 4_079)?)?;
+    }
+    ops.push(wide(alloc, 64, size)?)?;
+    Ok(ops)
+}
+
+#[test]
+fn changed_rows_take_1048576_bytes(rt: HostRuntime) -> Result<(), Fail> {
+    let alloc = rt.alloc();
+    let mut plain = Plain::opening(alloc)?;
+    let making = vec![in alloc;
+        create_tenant(alloc, "t")?,
+        create_graph(alloc, "t", "g")?,
+        create_vertex_type(alloc, "n", WIDE)?,
+    ]?;
+    changed(alloc, &mut plain, &making)?;
+    assert_eq!(rt;
+        changed(alloc, &mut plain, &wide_ones(alloc, 4_080)?)?,
+        None
+    );
+    assert_eq!(rt;
+        changed(alloc, &mut plain, &wide_ones(alloc, 4_079)?)?,
+        Some(64)
+    );
+    Ok(())
+}
