@@ -1,9 +1,6 @@
 //! The most that a request may change.
-use super::making::{
-    SINCE, create_graph, create_tenant, create_vertex_type, drop_vertex, int, link, person, put,
-    since, unlink,
-};
-use super::showing::begun;
+use super::begun::{begun, begun_with};
+use super::making::{drop_vertex, int, link, person, put, since};
 use crate::Plain;
 use a1_base::Txt;
 use a1_value::Given;
@@ -53,19 +50,37 @@ fn a_request_changes_1024_rows(rt: HostRuntime) -> Result<(), Fail> {
     Ok(())
 }
 
-#[test]
-fn a_vertex_with_1023_edges_is_dropped(rt: HostRuntime) -> Result<(), Fail> {
-    let alloc = rt.alloc();
+// The vertex 0 with an edge to each of 1,023 others.
+fn wheel(alloc: Global) -> Result<Plain, Fail> {
     let mut plain = begun(alloc)?;
     changed(alloc, &mut plain, &persons(alloc, 1_024)?)?;
     changed(alloc, &mut plain, &spokes(alloc, 1_024)?)?;
-    let dropping = vec![in alloc; drop_vertex(alloc, 0)?]?;
-    let looping = vec![in alloc; link(alloc, "e", 0, 0, since(alloc, 7)?)?]?;
-    changed(alloc, &mut plain, &looping)?;
-    assert_eq!(rt; changed(alloc, &mut plain, &dropping)?, None);
-    let cutting = vec![in alloc; unlink(alloc, "e", 0, 0)?]?;
-    changed(alloc, &mut plain, &cutting)?;
-    assert_eq!(rt; changed(alloc, &mut plain, &dropping)?, Some(1_024));
+    Ok(plain)
+}
+
+fn alone(alloc: Global, op: Op) -> Result<Vec<Op>, AllocError> {
+    let mut ops = Vec::new(alloc);
+    ops.push(op)?;
+    Ok(ops)
+}
+
+#[test]
+fn a_vertex_with_1023_edges_is_dropped(rt: HostRuntime) -> Result<(), Fail> {
+    let alloc = rt.alloc();
+    let mut plain = wheel(alloc)?;
+    let ops = alone(alloc, drop_vertex(alloc, 0)?)?;
+    assert_eq!(rt; changed(alloc, &mut plain, &ops)?, Some(1_024));
+    Ok(())
+}
+
+#[test]
+fn a_vertex_with_1024_edges_is_not_dropped(rt: HostRuntime) -> Result<(), Fail> {
+    let alloc = rt.alloc();
+    let mut plain = wheel(alloc)?;
+    let ops = alone(alloc, link(alloc, "e", 0, 0, since(alloc, 7)?)?)?;
+    assert_eq!(rt; changed(alloc, &mut plain, &ops)?, Some(1));
+    let ops = alone(alloc, drop_vertex(alloc, 0)?)?;
+    assert_eq!(rt; changed(alloc, &mut plain, &ops)?, None);
     Ok(())
 }
 
@@ -113,20 +128,10 @@ fn wide_ones(alloc: Global, size: usize) -> Result<Vec<Op>, AllocError> {
 #[test]
 fn changed_rows_take_1048576_bytes(rt: HostRuntime) -> Result<(), Fail> {
     let alloc = rt.alloc();
-    let mut plain = Plain::opening(alloc)?;
-    let making = vec![in alloc;
-        create_tenant(alloc, "t")?,
-        create_graph(alloc, "t", "g")?,
-        create_vertex_type(alloc, "n", WIDE)?,
-    ]?;
-    changed(alloc, &mut plain, &making)?;
-    assert_eq!(rt;
-        changed(alloc, &mut plain, &wide_ones(alloc, 4_080)?)?,
-        None
-    );
-    assert_eq!(rt;
-        changed(alloc, &mut plain, &wide_ones(alloc, 4_079)?)?,
-        Some(64)
-    );
+    let mut plain = begun_with(alloc, WIDE)?;
+    let ops = wide_ones(alloc, 4_080)?;
+    assert_eq!(rt; changed(alloc, &mut plain, &ops)?, None);
+    let ops = wide_ones(alloc, 4_079)?;
+    assert_eq!(rt; changed(alloc, &mut plain, &ops)?, Some(64));
     Ok(())
 }

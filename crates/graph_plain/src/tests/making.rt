@@ -42,6 +42,14 @@ fn end_at(alloc: Global, id: i64) -> Result<End, AllocError> {
     })
 }
 
+/// A request of two operations.
+pub fn both(alloc: Global, first: Op, second: Op) -> Result<Vec<Op>, AllocError> {
+    let mut ops = Vec::new(alloc);
+    ops.push(first)?;
+    ops.push(second)?;
+    Ok(ops)
+}
+
 // ---- members
 
 pub fn int(alloc: Global, name: &str, n: i64) -> Result<(Txt, Given), AllocError> {

@@ -1,11 +1,9 @@
 //! Rows and refusals as texts of these tests.
-use super::making::{
-    PERSON, SINCE, create_edge_type, create_graph, create_tenant, create_vertex_type,
-};
 use crate::Plain;
 use a1_value::Value;
 use request_reader::Op;
 use std::alloc::{AllocError, Global};
+use std::process::Abort;
 use std::test::Fail;
 use type_schema::{EdgeName, GraphFault, Record, Refusal, RowChange, StoreKey, StoreValue};
 
@@ -93,24 +91,19 @@ pub fn answer(alloc: Global, plain: &mut Plain, ops: &[Op]) -> Result<String, Fa
     }
 }
 
-/// The same for one operation.
-pub fn answer_one(alloc: Global, plain: &mut Plain, op: Op) -> Result<String, Fail> {
-    let ops = vec![in alloc; op]?;
-    answer(alloc, plain, &ops)
-}
-
-/// The graph `t/g` of number 2, with vertices of the type `n` and edges of the types `e` and `aa`.
-pub fn begun(alloc: Global) -> Result<Plain, Fail> {
-    let mut plain = Plain::opening(alloc)?;
-    let ops = vec![in alloc;
-        create_tenant(alloc, "t")?,
-        create_graph(alloc, "t", "g")?,
-        create_vertex_type(alloc, "n", PERSON)?,
-        create_edge_type(alloc, "e", SINCE)?,
-        create_edge_type(alloc, "aa", SINCE)?,
-    ]?;
-    plain.effect(alloc, &ops)?;
-    Ok(plain)
+/// Asserts the answer to a request of one operation.
+pub fn answers(
+    rt: &impl Abort,
+    alloc: Global,
+    plain: &mut Plain,
+    op: Op,
+    want: &str,
+) -> Result<(), Fail> {
+    let mut ops = Vec::new(alloc);
+    ops.push(op)?;
+    let told = answer(alloc, plain, &ops)?;
+    assert_eq!(rt; told.as_str(), want);
+    Ok(())
 }
 
 /// All rows of the graph.
