@@ -17,7 +17,10 @@ fn a_database_begins_with_one_graph(rt: HostRuntime) -> Result<(), Fail> {
     let alloc = rt.alloc();
     let plain = Plain::opening(alloc)?;
     let told = all_shown(alloc, &plain)?;
-    assert_eq!(rt; told.as_str(), "counter=2; tenant sys; graph sys/names=1; type 1 name of a schema; ");
+    assert_eq!(rt;
+        told.as_str(),
+        "counter=2; tenant sys; graph sys/names=1; type 1 name of a schema; "
+    );
     Ok(())
 }
 
@@ -25,14 +28,26 @@ fn a_database_begins_with_one_graph(rt: HostRuntime) -> Result<(), Fail> {
 fn graphs_and_types_are_made(rt: HostRuntime) -> Result<(), Fail> {
     let alloc = rt.alloc();
     let mut plain = Plain::opening(alloc)?;
-    answers(&rt, alloc, &mut plain, create_tenant(alloc, "t")?, "tenant t; ")?;
+    answers(
+        &rt,
+        alloc,
+        &mut plain,
+        create_tenant(alloc, "t")?,
+        "tenant t; ",
+    )?;
     let op = create_graph(alloc, "t", "g")?;
     answers(&rt, alloc, &mut plain, op, "graph t/g=2; counter=3; ")?;
     let op = create_vertex_type(alloc, "n", PERSON)?;
     answers(&rt, alloc, &mut plain, op, "type 2 n of a schema; ")?;
     let op = create_edge_type(alloc, "e", SINCE)?;
     answers(&rt, alloc, &mut plain, op, "type 2 e of a schema; ")?;
-    answers(&rt, alloc, &mut plain, drop_graph(alloc, "t", "g")?, "graph t/g gone; ")
+    answers(
+        &rt,
+        alloc,
+        &mut plain,
+        drop_graph(alloc, "t", "g")?,
+        "graph t/g gone; ",
+    )
 }
 
 fn aged(alloc: Global, age: i64) -> Result<Vec<(Txt, Given)>, AllocError> {
@@ -49,8 +64,20 @@ fn vertices_are_written(rt: HostRuntime) -> Result<(), Fail> {
     answers(&rt, alloc, &mut plain, op, "vertex 2 n -1: -1 30 ann; ")?;
     let op = set(alloc, -1, aged(alloc, 40)?)?;
     answers(&rt, alloc, &mut plain, op, "vertex 2 n -1: -1 40 ann; ")?;
-    answers(&rt, alloc, &mut plain, add(alloc, -1, "age", -50)?, "vertex 2 n -1: -1 -10 ann; ")?;
-    answers(&rt, alloc, &mut plain, drop_vertex(alloc, -1)?, "vertex 2 n -1 gone; ")
+    answers(
+        &rt,
+        alloc,
+        &mut plain,
+        add(alloc, -1, "age", -50)?,
+        "vertex 2 n -1: -1 -10 ann; ",
+    )?;
+    answers(
+        &rt,
+        alloc,
+        &mut plain,
+        drop_vertex(alloc, -1)?,
+        "vertex 2 n -1 gone; ",
+    )
 }
 
 #[test]
@@ -59,7 +86,13 @@ fn edges_are_written(rt: HostRuntime) -> Result<(), Fail> {
     let mut plain = filled(alloc)?;
     let op = link(alloc, "e", 3, 2, since(alloc, 5)?)?;
     answers(&rt, alloc, &mut plain, op, "edge 2 e 3-2: 5; ")?;
-    answers(&rt, alloc, &mut plain, unlink(alloc, "e", 3, 2)?, "edge 2 e 3-2 gone; ")
+    answers(
+        &rt,
+        alloc,
+        &mut plain,
+        unlink(alloc, "e", 3, 2)?,
+        "edge 2 e 3-2 gone; ",
+    )
 }
 
 // The age of a vertex of the type `n`.

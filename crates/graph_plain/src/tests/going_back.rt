@@ -42,9 +42,27 @@ fn refuses(
 fn a_refusal_keeps_nothing(rt: HostRuntime) -> Result<(), Fail> {
     let alloc = rt.alloc();
     let mut plain = filled(alloc)?;
-    refuses(&rt, alloc, &mut plain, create_tenant(alloc, "u")?, "TenantTaken")?;
-    refuses(&rt, alloc, &mut plain, drop_graph(alloc, "u", "g")?, "NoGraph")?;
-    refuses(&rt, alloc, &mut plain, put(alloc, since(alloc, 5)?)?, "Missing id")?;
+    refuses(
+        &rt,
+        alloc,
+        &mut plain,
+        create_tenant(alloc, "u")?,
+        "TenantTaken",
+    )?;
+    refuses(
+        &rt,
+        alloc,
+        &mut plain,
+        drop_graph(alloc, "u", "g")?,
+        "NoGraph",
+    )?;
+    refuses(
+        &rt,
+        alloc,
+        &mut plain,
+        put(alloc, since(alloc, 5)?)?,
+        "Missing id",
+    )?;
     refuses(&rt, alloc, &mut plain, drop_vertex(alloc, 1)?, "NoVertex")?;
     refuses(&rt, alloc, &mut plain, unlink(alloc, "aa", 2, 3)?, "NoEdge")
 }
@@ -53,11 +71,16 @@ fn a_refusal_keeps_nothing(rt: HostRuntime) -> Result<(), Fail> {
 fn a_number_is_given_once(rt: HostRuntime) -> Result<(), Fail> {
     let alloc = rt.alloc();
     let mut plain = filled(alloc)?;
-    let ops = both(alloc, drop_graph(alloc, "t", "g")?, create_graph(alloc, "t", "g")?)?;
+    let ops = both(
+        alloc,
+        drop_graph(alloc, "t", "g")?,
+        create_graph(alloc, "t", "g")?,
+    )?;
     let told = answer(alloc, &mut plain, &ops)?;
     assert_eq!(rt; told.as_str(), "graph t/g gone; graph t/g=3; counter=4; ");
     let left = all_shown(alloc, &plain)?;
-    let rows = "counter=4; tenant sys; tenant t; graph sys/names=1; graph t/g=3; type 1 name of a schema; ";
+    let rows =
+        "counter=4; tenant sys; tenant t; graph sys/names=1; graph t/g=3; type 1 name of a schema; ";
     assert_eq!(rt; left.as_str(), rows);
     Ok(())
 }
@@ -66,7 +89,13 @@ fn a_number_is_given_once(rt: HostRuntime) -> Result<(), Fail> {
 fn a_refused_graph_takes_no_number(rt: HostRuntime) -> Result<(), Fail> {
     let alloc = rt.alloc();
     let mut plain = filled(alloc)?;
-    refuses(&rt, alloc, &mut plain, create_graph(alloc, "u", "h")?, "GraphTaken")?;
+    refuses(
+        &rt,
+        alloc,
+        &mut plain,
+        create_graph(alloc, "u", "h")?,
+        "GraphTaken",
+    )?;
     let op = create_graph(alloc, "t", "h")?;
     answers(&rt, alloc, &mut plain, op, "graph t/h=3; counter=4; ")
 }
