@@ -1,0 +1,113 @@
+//! Rows and refusals as texts of these tests.
+use crate::Plain;
+use a1_value::Value;
+use request_reader::Op;
+use std::alloc::{AllocError, Global};
+use std::process::Abort;
+use std::test::Fail;
+use type_schema::{EdgeName, GraphFault, Record, Refusal, RowChange, StoreKey, StoreValue};
+
+fn shown_value(alloc: Global, value: &Value) -> Result<String, AllocError> {
+    match value {
+        Value::Int(n) => format!(in alloc; "{n}"),
+        Value::Text(text) => format!(in alloc; "{}", text.as_text()),
+        Value::Bytes(bytes) => format!(in alloc; "{} bytes", bytes.as_slice().len()),
+    }
+}
+
+fn shown_edge(alloc: Global, edge: &EdgeName) -> Result<String, AllocError> {
+    let from = shown_value(alloc, &edge.from)?;
+    let to = shown_value(alloc, &edge.to)?;
+    format!(in alloc; "edge {} {} {from}-{to}", edge.graph, edge.kind.as_text())
+}
+
+fn shown_key(alloc: Global, key: &StoreKey) -> Result<String, AllocError> {
+    match key {
+        StoreKey::Counter => format!(in alloc; "counter"),
+        StoreKey::Tenant(name) => format!(in alloc; "tenant {}", name.as_text()),
+        StoreKey::Graph(graph) => {
+            format!(in alloc; "graph {}/{}", graph.tenant.as_text(), graph.name.as_text())
+        }
+        StoreKey::TypeKey(t) => format!(in alloc; "type {} {}", t.graph, t.name.as_text()),
+        StoreKey::Vertex(v) => {
+            let key = shown_value(alloc, &v.key)?;
+            format!(in alloc; "vertex {} {} {key}", v.graph, v.kind.as_text())
+        }
+        StoreKey::Edge(edge) => shown_edge(alloc, edge),
+    }
+}
+
+fn shown_record(alloc: Global, record: &Record) -> Result<String, AllocError> {
+    let mut text = String::new(alloc);
+    for value in &record.values {
+        text.push(' ')?;
+        text.push_str(shown_value(alloc, value)?.as_str())?;
+    }
+    Ok(text)
+}
+
+fn shown_stored(alloc: Global, value: &Option<StoreValue>) -> Result<String, AllocError> {
+    match value {
+        None => format!(in alloc; " gone"),
+        Some(StoreValue::Nothing) => Ok(String::new(alloc)),
+        Some(StoreValue::Number(n)) => format!(in alloc; "={n}"),
+        Some(StoreValue::Schema(_)) => format!(in alloc; " of a schema"),
+        Some(StoreValue::Record(record)) => {
+            let values = shown_record(alloc, record)?;
+            format!(in alloc; ":{values}")
+        }
+    }
+}
+
+/// Each row, with `; ` behind it.
+pub fn shown(alloc: Global, rows: &[RowChange]) -> Result<String, AllocError> {
+    let mut text = String::new(alloc);
+    for row in rows {
+        text.push_str(shown_key(alloc, &row.key)?.as_str())?;
+        text.push_str(shown_stored(alloc, &row.value)?.as_str())?;
+        text.push_str("; ")?;
+    }
+    Ok(text)
+}
+
+fn shown_refusal(alloc: Global, refusal: &Refusal) -> Result<String, AllocError> {
+    match &refusal.attr {
+        Some(attr) => format!(in alloc; "{:?} {}", refusal.word, attr.as_text()),
+        None => format!(in alloc; "{:?}", refusal.word),
+    }
+}
+
+/// The rows that the request changes, or its refusal. Where memory is wanting once, it is asked again: the graph has to
+/// be as before.
+pub fn answer(alloc: Global, plain: &mut Plain, ops: &[Op]) -> Result<String, Fail> {
+    let mut found = plain.effect(alloc, ops);
+    if let Err(GraphFault::Memory) = &found {
+        found = plain.effect(alloc, ops);
+    }
+    match found {
+        Ok(rows) => Ok(shown(alloc, &rows)?),
+        Err(GraphFault::Refused(refusal)) => Ok(shown_refusal(alloc, &refusal)?),
+        Err(GraphFault::Memory) => Err(Fail::from("memory is wanting")),
+    }
+}
+
+/// Asserts the answer to a request of one operation.
+pub fn answers(
+    rt: &impl Abort,
+    alloc: Global,
+    plain: &mut Plain,
+    op: Op,
+    want: &str,
+) -> Result<(), Fail> {
+    let mut ops = Vec::new(alloc);
+    ops.push(op)?;
+    let told = answer(alloc, plain, &ops)?;
+    assert_eq!(rt; told.as_str(), want);
+    Ok(())
+}
+
+/// All rows of the graph.
+pub fn all_shown(alloc: Global, plain: &Plain) -> Result<String, Fail> {
+    let rows = plain.rows(alloc)?;
+    Ok(shown(alloc, &rows)?)
+}
