@@ -8,7 +8,9 @@ fn name(alloc: Global, text: &str) -> Result<Txt, Fail> {
 }
 
 fn puts(places: &mut Places<Txt, u64>, alloc: Global, text: &str, value: u64) -> Result<(), Fail> {
-    places.put(name(alloc, text)?, name(alloc, text)?, value)?;
+    let key = name(alloc, text)?;
+    let again = key.copy(alloc)?;
+    places.put(key, again, value)?;
     Ok(())
 }
 

@@ -100,6 +100,19 @@ fn a_refused_graph_takes_no_number(rt: HostRuntime) -> Result<(), Fail> {
     answers(&rt, alloc, &mut plain, op, "graph t/h=3; counter=4; ")
 }
 
+#[test]
+fn a_refused_graph_is_the_same(rt: HostRuntime) -> Result<(), Fail> {
+    let alloc = rt.alloc();
+    let mut plain = filled(alloc)?;
+    let kept = filled(alloc)?;
+    refuses(&rt, alloc, &mut plain, drop_vertex(alloc, 1)?, "NoVertex")?;
+    assert!(rt; plain.equal(&kept));
+    let op = unlink(alloc, "aa", 1, 2)?;
+    answers(&rt, alloc, &mut plain, op, "edge 2 aa 1-2 gone; ")?;
+    assert!(rt; !plain.equal(&kept));
+    Ok(())
+}
+
 // In the order of whole keys, the edge type `e` comes before `aa`.
 #[test]
 fn a_vertex_goes_behind_its_edges(rt: HostRuntime) -> Result<(), Fail> {
