@@ -1,9 +1,8 @@
 //! Rows and refusals as texts of these tests.
+use super::operations;
 use crate::Plain;
 use a1_value::Value;
-use request_reader::Op;
 use std::alloc::{AllocError, Global};
-use std::process::Abort;
 use std::test::Fail;
 use type_schema::{EdgeName, GraphFault, Record, Refusal, RowChange, StoreKey, StoreValue};
 
@@ -77,33 +76,13 @@ fn shown_refusal(alloc: Global, refusal: &Refusal) -> Result<String, AllocError>
     }
 }
 
-/// The rows that the request changes, or its refusal. Where memory is wanting once, it is asked again: the graph has to
-/// be as before.
-pub fn answer(alloc: Global, plain: &mut Plain, ops: &[Op]) -> Result<String, Fail> {
-    let mut found = plain.effect(alloc, ops);
-    if let Err(GraphFault::Memory) = &found {
-        found = plain.effect(alloc, ops);
-    }
-    match found {
+/// The rows that the request changes, or its refusal.
+pub fn answer(alloc: Global, plain: &mut Plain, line: &str) -> Result<String, Fail> {
+    match plain.effect(alloc, operations(alloc, line)?.as_slice()) {
         Ok(rows) => Ok(shown(alloc, &rows)?),
         Err(GraphFault::Refused(refusal)) => Ok(shown_refusal(alloc, &refusal)?),
         Err(GraphFault::Memory) => Err(Fail::from("memory is wanting")),
     }
-}
-
-/// Asserts the answer to a request of one operation.
-pub fn answers(
-    rt: &impl Abort,
-    alloc: Global,
-    plain: &mut Plain,
-    op: Op,
-    want: &str,
-) -> Result<(), Fail> {
-    let mut ops = Vec::new(alloc);
-    ops.push(op)?;
-    let told = answer(alloc, plain, &ops)?;
-    assert_eq!(rt; told.as_str(), want);
-    Ok(())
 }
 
 /// All rows of the graph.
