@@ -20,15 +20,21 @@ fn graph_made(alloc: Global, next: u64) -> Result<Action, GraphFault> {
     decide(alloc, &draft, &Op::CreateGraph(name))
 }
 
+// The number of the graph that is made: none where no number is left.
+fn number_given(alloc: Global, next: u64) -> Result<Option<u64>, Fail> {
+    let made = graph_made(alloc, next);
+    match &made {
+        Ok(Action::AddGraph { name: _, number }) => Ok(Some(*number)),
+        Err(GraphFault::Refused(refusal)) if refusal.word == Word::GraphsFull => Ok(None),
+        _ => Err(Fail::from("another answer")),
+    }
+}
+
 #[test]
 fn the_last_number_is_not_given(rt: HostRuntime) -> Result<(), Fail> {
-    let last = graph_made(rt.alloc(), GRAPH_NUMBER_LIMIT - 1);
-    assert!(rt;
-        matches!(last, Ok(Action::AddGraph { name: _, number }) if number == GRAPH_NUMBER_LIMIT - 1)
-    );
-    let none = graph_made(rt.alloc(), GRAPH_NUMBER_LIMIT);
-    assert!(rt;
-        matches!(none, Err(GraphFault::Refused(refusal)) if refusal.word == Word::GraphsFull)
-    );
+    let alloc = rt.alloc();
+    let last = GRAPH_NUMBER_LIMIT - 1;
+    assert_eq!(rt; number_given(alloc, last)?, Some(last));
+    assert_eq!(rt; number_given(alloc, GRAPH_NUMBER_LIMIT)?, None);
     Ok(())
 }
