@@ -18,7 +18,6 @@ use Rattle.a1.specs.Rules.{Serves}
 use Rattle.a1.specs.declared.input.InputFault.{InputFault}
 use Rattle.a1.specs.declared.finishing.Served.{Served}
 use Rattle.a1.specs.StepsCommand.{steps_rules, AreAnswers}
-use Rattle.a1.specs.declared.steps_command.TheConstants.{STEPS_NODES}
 use Rattle.a1.proofs.EndingLemmas.{Lawful, empty_legal}
 
 each_in_range : (nodes : ℕ) (events : List Event) → AllByRecursion (IsEvent nodes) events → AllByRecursion (InRange nodes) events
@@ -30,26 +29,26 @@ pub takes_events : (core : Shown) (nodes : ℕ) (events : List Event) → CoreSt
 takes_events core nodes events stands each = subst (λ n. All (InRange n) events) (sym stands.nodes_stand.number) (All-from_recursion (InRange nodes) events (each_in_range nodes events each))
 
 -- the answers of a run from the fresh farm on
-pub if_answered : {V E : Type 0} (r : Result V E) (items : V → List Answer) (core : Shown) (events : List Event)
-    → IfOk r (λ v. (later : State) × Runs (fresh STEPS_NODES) events (items v) later × CoreStands core later) → IfOk r (λ v. AreAnswers events (items v))
-if_answered (Ok v) items core events ran = (ran.0, ran.1)
-if_answered (Err e) items core events ran = ran
+pub if_answered : {V E : Type 0} (nodes : ℕ) (r : Result V E) (items : V → List Answer) (core : Shown) (events : List Event)
+    → IfOk r (λ v. (later : State) × Runs (fresh nodes) events (items v) later × CoreStands core later) → IfOk r (λ v. AreAnswers nodes events (items v))
+if_answered nodes (Ok v) items core events ran = (ran.0, ran.1)
+if_answered nodes (Err e) items core events ran = ran
 
 -- a text of events has no line that is no event's
-text_not_broken : (bytes : List ℕ) (events : List Event) (line : ℕ) → IsTextOf STEPS_NODES bytes events → IsFaultOf STEPS_NODES bytes (Line line) → ⊥
-text_not_broken bytes events line text (inl long) = omega (arith, text.short, long.0)
-text_not_broken bytes events line text (inr broken) = not_broken STEPS_NODES events broken.events bytes broken.rest text.each text.lines broken.breaks
+text_not_broken : (nodes : ℕ) (bytes : List ℕ) (events : List Event) (line : ℕ) → IsTextOf nodes bytes events → IsFaultOf nodes bytes (Line line) → ⊥
+text_not_broken nodes bytes events line text (inl long) = omega (arith, text.short, long.0)
+text_not_broken nodes bytes events line text (inr broken) = not_broken nodes events broken.events bytes broken.rest text.each text.lines broken.breaks
 
 -- whatever comes of a text of events, there is no run
-pub no_run : (source sink : Side (List ℕ)) (status : ℕ) (run : Run) (served : Result Served InputFault) → Serves steps_rules source served → Finishes served sink status run → run ≡ empty_run
-no_run source sink status run (Ok served) serves finishes = finishes.1 ∙ serves.1
-no_run source sink status run (Err why) serves finishes = finishes.4
+pub no_run : (nodes : ℕ) (source sink : Side (List ℕ)) (status : ℕ) (run : Run) (served : Result Served InputFault) → Serves (steps_rules nodes) source served → Finishes served sink status run → run ≡ empty_run
+no_run nodes source sink status run (Ok served) serves finishes = finishes.1 ∙ serves.1
+no_run nodes source sink status run (Err why) serves finishes = finishes.4
 
-pub steps_lawful : Lawful steps_rules
-steps_lawful = record {
+pub steps_lawful : (nodes : ℕ) → Lawful (steps_rules nodes)
+steps_lawful nodes = record {
   legal = λ source text run served. empty_legal run served.1;
-  apart = λ bytes line is bad. text_not_broken bytes is.0 line is.1 bad;
+  apart = λ bytes line is bad. text_not_broken nodes bytes is.0 line is.1 bad;
   served_apart = λ source bytes text run line holds served bad.
       let events = served.0.events in
-      text_not_broken bytes events line (subst (λ s. IfSome s (λ b. IsTextOf STEPS_NODES b events)) holds served.0.of) bad;
+      text_not_broken nodes bytes events line (subst (λ s. IfSome s (λ b. IsTextOf nodes b events)) holds served.0.of) bad;
 }

@@ -4,7 +4,7 @@ use Rattle.std.specs.Prelude.{IfSome}
 use Rattle.std.specs.Io.KnownBytes.{append_known}
 use Rattle.run_text.specs.Run.{empty_run}
 use Rattle.run_text.specs.declared.run.Run.{Run}
-use Rattle.a1.specs.Outside.{Outside, HasFailed, IsUntouched, IsWritten}
+use Rattle.a1.specs.Outside.{Side, Outside, outside, no_store, HasFailed, IsUntouched, IsWritten}
 use Rattle.a1.specs.Endings.{usage_text, bad_line_text, cause_status, status_in, Writes, Tells, Finishes}
 use Rattle.a1.specs.Rules.{Serves}
 use Rattle.a1.specs.RunCommand.{IsLegalRun}
@@ -23,8 +23,8 @@ use Rattle.a1.proofs.RunLemmas.{run_lawful}
 use Rattle.a1.proofs.StepsLemmas.{steps_lawful}
 
 lawful : (c : Command) → Lawful (rules_of c)
-lawful command.Run = run_lawful
-lawful command.Steps = steps_lawful
+lawful (command.Run options) = run_lawful
+lawful (command.Steps options) = steps_lawful options.nodes
 
 -- ---- from what a command serves and writes to the table
 
@@ -46,6 +46,14 @@ module _ (o : Outside) (status : ℕ) (run : Run) (rests : IsUntouched o.store) 
   ends_served c (Err fault.Memory) serves (why, text, (is, none), tells, left) = told (Some c) cause.Memory [] (refl, left) (rw (← is, ← none) tells)
   ends_served c (Err (fault.Line line)) serves (why, text, inl said, tells, left) = told (Some c) (cause.Malformed line) (bad_line_text line) (serves, refl, left) (rw (← said.0, ← said.1) tells)
   ends_served c (Err (fault.Line line)) serves (why, text, inr none, tells, left) = told (Some c) cause.Memory [] (refl, left) (rw (← none.0, ← none.1) tells)
+
+-- a call that is not given the store leaves it untouched
+pub ends_beside : (c : Option Command) (source sink : Side (List ℕ)) (status : ℕ) (run : Run) (store : Side (List (List ℕ))) → EndsWith c (outside source sink no_store) status run → IsUntouched store → EndsWith c (outside source sink store) status run
+ends_beside c source sink status run store h rests = record {
+  ending = h.ending;
+  is = h.is;
+  ends = record { text = h.ends.text; says = h.ends.says; written = h.ends.written; untouched = rests };
+}
 
 -- ---- from the table to the clauses of the top call
 

@@ -14,8 +14,8 @@ use Rattle.a1.specs.declared.ending.Cause.TheVariants as cause
 use Rattle.a1.specs.declared.ending.Ending.{Ending}
 
 abbrev pub rules_of : Command → Rules
-rules_of command.Run = run_rules
-rules_of command.Steps = steps_rules
+rules_of (command.Run options) = run_rules
+rules_of (command.Steps options) = steps_rules options.nodes
 
 -- why a command, or words that are none, may end so over this source, with which text and which run
 abbrev pub Says : Option Command → Side (List ℕ) → Cause → List ℕ → Run → Type 0

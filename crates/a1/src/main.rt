@@ -9,6 +9,7 @@ mod edge;
 mod ending;
 mod finishing;
 mod input;
+mod options;
 mod run_command;
 mod steps_command;
 mod streams;

@@ -6,7 +6,8 @@ ghost use Rattle.answer_text.specs.Transcript.{text_of};
 ghost use Rattle.answer_text.specs.Legal.{IsLegal};
 ghost use Rattle.run_text.specs.Script.{script_of, request_count, asked_in};
 ghost use Rattle.a1.specs.Outside.{side, outside, IsReadWhole};
-ghost use Rattle.a1.specs.Words.{command_of};
+ghost use Rattle.a1.specs.Words.{texts_of, command_of};
+ghost use Rattle.a1.specs.declared.words.RunOptions.{RunOptions};
 ghost use Rattle.a1.specs.Rules.{IsInputFault, Serves};
 ghost use Rattle.a1.specs.RunCommand.{run_rules, AreServed};
 ghost use Rattle.a1.specs.Commands.{EndsWith};
@@ -108,14 +109,16 @@ pub fn run_call<T: Wait, R: Source, W: Sink, S: Store, G: Gate>(
     _store: &mut S,
     _gate: &G,
 ) -> Outcome
-    ensures runs { command_of words.now ≡ Some Command.Run → EndsWith (Some Command.Run)
+    ensures runs { (options : RunOptions) → command_of (texts_of words.now) ≡ Some (Command.Run options)
+        → EndsWith (Some (Command.Run options))
         (outside (side R.left R.faults source.old source.new) (side W.written W.faults sink.old sink.new)
         (side S.items S.faults _store.old _store.new)) result.status result.run }
-    ensures others { (command_of words.now ≡ Some Command.Run → ⊥) → EndsWith None
+    ensures others { ((options : RunOptions) → command_of (texts_of words.now) ≡ Some (Command.Run options) → ⊥)
+        → EndsWith None
         (outside (side R.left R.faults source.old source.new) (side W.written W.faults sink.old sink.new)
         (side S.items S.faults _store.old _store.new)) result.status result.run }
 {
-    let Some(Command::Run) = command_of(words) else {
+    let Some(Command::Run(_)) = command_of(words) else {
         return Outcome::without_run(alloc, say_usage(sink));
     };
     let served = serve_run(alloc, source);

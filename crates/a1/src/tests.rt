@@ -3,6 +3,7 @@ mod ample;
 mod runs;
 mod slow;
 mod steps;
+mod words;
 
 use crate::ending::Outcome;
 use crate::top::a1;
@@ -159,8 +160,13 @@ fn outcome_of<T: Wait>(
 }
 
 fn assert_outcome(rt: &impl Abort, status: u8, text: &[u8], case: &Case) {
-    assert_eq!(rt; status, case.status, "{:?}", case.script);
-    assert!(rt; text == case.text.as_bytes(), "{:?}", case.script);
+    assert_eq!(rt; status, case.status, "{:?} {:?}", case.words, case.script);
+    assert!(rt;
+        text == case.text.as_bytes(),
+        "{:?} {:?}",
+        case.words,
+        case.script
+    );
 }
 
 fn assert_case<T: Wait + Abort>(rt: &T, alloc: Global, case: &Case) -> Result<(), AllocError> {

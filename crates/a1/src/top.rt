@@ -4,7 +4,7 @@ ghost use Rattle.std.specs.Io.KnownBytes.{append_known};
 ghost use Rattle.a1_base.specs.Outside.{Rose};
 ghost use Rattle.run_text.specs.Run.{empty_run};
 ghost use Rattle.a1.specs.Outside.{side, outside};
-ghost use Rattle.a1.specs.Words.{command_of};
+ghost use Rattle.a1.specs.Words.{texts_of, command_of};
 ghost use Rattle.a1.specs.Endings.{usage_text, bad_line_text};
 ghost use Rattle.a1.specs.RunCommand.{IsLegalRun};
 ghost use Rattle.a1.specs.Commands.{rules_of, EndsWith};
@@ -30,13 +30,16 @@ fn dispatch<T: Wait, R: Source, W: Sink, S: Store, G: Gate>(
     store: &mut S,
     gate: &G,
 ) -> Outcome
-    ensures { EndsWith (command_of words.now)
+    ensures { EndsWith (command_of (texts_of words.now))
         (outside (side R.left R.faults source.old source.new) (side W.written W.faults sink.old sink.new)
         (side S.items S.faults store.old store.new)) result.status result.run }
 {
     match command_of(words) {
-        Some(Command::Run) => run_call(rt, alloc, words, source, sink, store, gate),
-        Some(Command::Steps) => Outcome::without_run(alloc, steps_call(alloc, words, source, sink)),
+        Some(Command::Run(_)) => run_call(rt, alloc, words, source, sink, store, gate),
+        Some(Command::Steps(_)) => Outcome::without_run(
+            alloc,
+            steps_call(alloc, words, source, sink),
+        ),
         None => Outcome::without_run(alloc, say_usage(sink)),
     }
 }
@@ -59,15 +62,15 @@ pub fn a1<T: Wait, R: Source, W: Sink, S: Store, G: Gate>(
     gate: &G,
 ) -> Outcome
     // It ends in one of the ways of the table.
-    ensures ends { EndsWith (command_of words.now)
+    ensures ends { EndsWith (command_of (texts_of words.now))
         (outside (side R.left R.faults source.old source.new) (side W.written W.faults sink.old sink.new)
         (side S.items S.faults store.old store.new)) result.status result.run }
 
     // What the command serves is written whole, and its run is left; or there is no run.
-    ensures served { (c : Command) → command_of words.now ≡ Some c → result.status ≡ 0 →
+    ensures served { (c : Command) → command_of (texts_of words.now) ≡ Some c → result.status ≡ 0 →
         (text : List ℕ) × (rules_of c).IsServed (side R.left R.faults source.old source.new) text result.run
         × (W.written sink.new ≡ append_known (W.written sink.old) text) }
-    ensures run_or_none { ((c : Command) × (text : List ℕ) × (command_of words.now ≡ Some c)
+    ensures run_or_none { ((c : Command) × (text : List ℕ) × (command_of (texts_of words.now) ≡ Some c)
         × (rules_of c).IsServed (side R.left R.faults source.old source.new) text result.run)
         ⊎ (result.run ≡ empty_run) }
     ensures no_run { ((result.status ≡ 2) ⊎ (result.status ≡ 3) ⊎ (result.status ≡ 8)) → result.run ≡ empty_run }
@@ -78,24 +81,24 @@ pub fn a1<T: Wait, R: Source, W: Sink, S: Store, G: Gate>(
     // What else is written.
     ensures usage_written { result.status ≡ 2 → W.written sink.new ≡ append_known (W.written sink.old) usage_text }
     ensures nothing_written { result.status ≡ 3 → W.written sink.new ≡ W.written sink.old }
-    ensures line_written { (c : Command) → command_of words.now ≡ Some c → result.status ≡ 8 →
+    ensures line_written { (c : Command) → command_of (texts_of words.now) ≡ Some c → result.status ≡ 8 →
         (line : ℕ) × IfSome (R.left source.old) (λ bytes. (rules_of c).IsMalformed bytes line)
         × (W.written sink.new ≡ append_known (W.written sink.old) (bad_line_text line)) }
 
     // Each fault has its cause.
-    ensures usage { result.status ≡ 2 → command_of words.now ≡ None }
+    ensures usage { result.status ≡ 2 → command_of (texts_of words.now) ≡ None }
     ensures unread { result.status ≡ 3 → Rose (R.faults source.old) (R.faults source.new) }
     ensures unwritten { result.status ≡ 4 → Rose (W.faults sink.old) (W.faults sink.new) }
 
     // And each status comes where it must, unless memory was wanting.
-    ensures whole { (c : Command) (bytes : List ℕ) → command_of words.now ≡ Some c → R.left source.old ≡ Some bytes
+    ensures whole { (c : Command) (bytes : List ℕ) → command_of (texts_of words.now) ≡ Some c → R.left source.old ≡ Some bytes
         → (rules_of c).IsText bytes → ¬ Rose (R.faults source.old) (R.faults source.new)
         → ¬ Rose (W.faults sink.old) (W.faults sink.new) → (result.status ≡ 0) ⊎ (result.status ≡ 6) }
-    ensures malformed { (c : Command) (bytes : List ℕ) (line : ℕ) → command_of words.now ≡ Some c
+    ensures malformed { (c : Command) (bytes : List ℕ) (line : ℕ) → command_of (texts_of words.now) ≡ Some c
         → R.left source.old ≡ Some bytes → (rules_of c).IsMalformed bytes line
         → ¬ Rose (R.faults source.old) (R.faults source.new) → ¬ Rose (W.faults sink.old) (W.faults sink.new)
         → (result.status ≡ 8) ⊎ (result.status ≡ 6) }
-    ensures other_words { command_of words.now ≡ None → ¬ Rose (W.faults sink.old) (W.faults sink.new)
+    ensures other_words { command_of (texts_of words.now) ≡ None → ¬ Rose (W.faults sink.old) (W.faults sink.new)
         → (result.status ≡ 2) ⊎ (result.status ≡ 6) }
 
     // The store stays as it was.

@@ -7,4 +7,4 @@ pub returns-in_default-clause-others : goal.returns-in_default-clause-others
 returns-in_default-clause-others g c = λ no. rw c.without_run.ensures (ends_usage _ _ _ (refl, refl) refl c.say_usage.ensures)
 
 pub returns-clause-runs : goal.returns-clause-runs
-returns-clause-runs g c = λ is. ends_served _ _ _ (refl, refl) command.Run c.serve_run-served.result c.serve_run-served.ensures c.finish.ensures
+returns-clause-runs g c = λ options is. ends_served _ _ _ (refl, refl) (command.Run options) c.serve_run-served.result c.serve_run-served.ensures c.finish.ensures
