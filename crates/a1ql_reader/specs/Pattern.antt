@@ -5,10 +5,10 @@ use Rattle.a1_json.specs.declared.tree.Json.{Json}
 use Rattle.a1_json.specs.declared.tree.Json.TheOpen.{Json-F}
 use Rattle.a1_json.specs.Fields.{Fields, member_of, as_text}
 use Rattle.type_schema.specs.Refusals.{need, passing, unless}
-use Rattle.a1ql_reader.specs.declared.pattern.VertexPattern.{VertexPattern, roll-VertexPattern}
-use Rattle.a1ql_reader.specs.declared.pattern.Hop.{Hop, roll-Hop}
-use Rattle.a1ql_reader.specs.declared.pattern.PatternFault.{PatternFault}
-use Rattle.a1ql_reader.specs.declared.pattern.PatternFault.TheVariants as fault
+use Rattle.a1ql_reader.specs.declared.patterns.VertexPattern.{VertexPattern, roll-VertexPattern}
+use Rattle.a1ql_reader.specs.declared.patterns.Hop.{Hop, roll-Hop}
+use Rattle.a1ql_reader.specs.declared.patterns.PatternFault.{PatternFault}
+use Rattle.a1ql_reader.specs.declared.patterns.PatternFault.TheVariants as fault
 use Rattle.a1ql_reader.specs.Places.{direction}
 use Rattle.a1ql_reader.specs.Walk.{Parts, walk}
 use Rattle.a1ql_reader.specs.Shapes.{fields_in, has_shape}

@@ -6,11 +6,11 @@ use Rattle.a1_json.specs.Fields.{Fields, member_of, as_text, as_int}
 use Rattle.a1_value.specs.declared.given.Given.{Given}
 use Rattle.a1_value.specs.declared.given.Given.TheVariants as given
 use Rattle.type_schema.specs.Refusals.{need}
-use Rattle.a1ql_reader.specs.declared.pattern.Comparison.{Comparison}
-use Rattle.a1ql_reader.specs.declared.pattern.Comparison.TheVariants.{Eq}
-use Rattle.a1ql_reader.specs.declared.pattern.Test.{Test}
-use Rattle.a1ql_reader.specs.declared.pattern.Select.{Select}
-use Rattle.a1ql_reader.specs.declared.pattern.Select.TheVariants.{All, Count, Names}
+use Rattle.a1ql_reader.specs.declared.patterns.Comparison.{Comparison}
+use Rattle.a1ql_reader.specs.declared.patterns.Comparison.TheVariants.{Eq}
+use Rattle.a1ql_reader.specs.declared.patterns.Test.{Test}
+use Rattle.a1ql_reader.specs.declared.patterns.Select.{Select}
+use Rattle.a1ql_reader.specs.declared.patterns.Select.TheVariants.{All, Count, Names}
 use Rattle.a1ql_reader.specs.Places.{comparison_named, is_reserved}
 use Rattle.a1ql_reader.specs.Shapes.{fields_in, items_in}
 

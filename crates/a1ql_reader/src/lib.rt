@@ -5,7 +5,7 @@
 #![tactic(auto)]
 
 mod naming;
-mod pattern;
+mod patterns;
 mod places;
 mod reading;
 mod saying;
@@ -14,5 +14,5 @@ mod shapes;
 mod tests;
 mod values;
 
-pub use pattern::{Comparison, Hop, PatternFault, Select, Test, VertexPattern};
+pub use patterns::{Comparison, Hop, PatternFault, Select, Test, VertexPattern};
 pub use reading::pattern;

@@ -32,7 +32,9 @@ fn named(json: &Json, place: Place) -> bool
     ensures { result ≡ named json.now place }
 {
     match json {
-        Json::Null | Json::Bool(_) | Json::Int(_) => true,
+        Json::Null => true,
+        Json::Bool(_) => true,
+        Json::Int(_) => true,
         Json::Text(text) => text_named(text, place),
         Json::List(items) => list_named(items.as_slice(), place),
         Json::Members(members) => object_named(members.as_slice(), place),
@@ -66,7 +68,7 @@ fn object_named(members: &[(Txt, Json)], place: Place) -> bool
     ensures { result ≡ object_named place (map (λ m. (m.0, named m.1)) members.now) }
 {
     for member in members {
-        if !member_named(member, place) {
+        if !member_named(&member.1, place_of(place, member.0.as_text())) {
             return false;
         }
     }
@@ -74,11 +76,11 @@ fn object_named(members: &[(Txt, Json)], place: Place) -> bool
 }
 
 #[cycle(naming)]
-fn member_named(member: &(Txt, Json), place: Place) -> bool
-    ensures { result ≡ member_named (place_of place member.now.0) (named member.now.1) }
+fn member_named(json: &Json, place: Option<Place>) -> bool
+    ensures { result ≡ member_named place (named json.now) }
 {
-    match place_of(place, member.0.as_text()) {
-        Some(place) => named(&member.1, place),
+    match place {
+        Some(place) => named(json, place),
         None => true,
     }
 }

@@ -106,7 +106,8 @@ fn fits(json: &Json, place: Place) -> bool
     ensures { result ≡ fits json.now place }
 {
     match json {
-        Json::Null | Json::Bool(_) => false,
+        Json::Null => false,
+        Json::Bool(_) => false,
         Json::Int(_) => is_operand(place),
         Json::Text(_) => is_text_place(place),
         Json::List(items) => list_fits(items.as_slice(), place),
@@ -149,7 +150,7 @@ fn members_fit(members: &[(Txt, Json)], place: Place) -> bool
     ensures { result ≡ members_fit place (map (λ m. (m.0, fits m.1)) members.now) }
 {
     for member in members {
-        if !member_fits(member, place) {
+        if !member_fits(&member.1, place_of(place, member.0.as_text())) {
             return false;
         }
     }
@@ -157,11 +158,11 @@ fn members_fit(members: &[(Txt, Json)], place: Place) -> bool
 }
 
 #[cycle(fitting)]
-fn member_fits(member: &(Txt, Json), place: Place) -> bool
-    ensures { result ≡ member_fits (place_of place member.now.0) (fits member.now.1) }
+fn member_fits(json: &Json, place: Option<Place>) -> bool
+    ensures { result ≡ member_fits place (fits json.now) }
 {
-    match place_of(place, member.0.as_text()) {
-        Some(place) => fits(&member.1, place),
+    match place {
+        Some(place) => fits(json, place),
         None => false,
     }
 }

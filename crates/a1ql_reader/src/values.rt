@@ -1,6 +1,6 @@
 //! What the values in a pattern say, apart from the patterns inside it.
 ghost use Rattle.std.specs.Prelude.{◌≡◌, [], ◌∷◌, option_map, IfOk};
-ghost use Rattle.a1ql_reader.specs.declared.pattern.Comparison.TheVariants.{Eq};
+ghost use Rattle.a1ql_reader.specs.declared.patterns.Comparison.TheVariants.{Eq};
 ghost use Rattle.a1_json.specs.Fields.{as_text};
 ghost use Rattle.a1ql_reader.specs.Shapes.{fields_in, items_in};
 ghost use Rattle.a1ql_reader.specs.Values.{given_of, compared, tests_at, tests_in, texts_of, is_count_text, is_count, selected, select_in};

@@ -86,7 +86,7 @@ pub enum PatternFault {
 
 impl From<AllocError> for PatternFault {
     ghost use Rattle.std.specs.Prelude.{◌≡◌};
-    ghost use Rattle.a1ql_reader.specs.declared.pattern.PatternFault.TheVariants.{Memory};
+    ghost use Rattle.a1ql_reader.specs.declared.patterns.PatternFault.TheVariants.{Memory};
 
     ghost from_gives = { λ _ fault. fault ≡ Memory };
 
@@ -97,7 +97,7 @@ impl From<AllocError> for PatternFault {
 
 impl<T: Drop> From<AllocFailed<T>> for PatternFault {
     ghost use Rattle.std.specs.Prelude.{◌≡◌};
-    ghost use Rattle.a1ql_reader.specs.declared.pattern.PatternFault.TheVariants.{Memory};
+    ghost use Rattle.a1ql_reader.specs.declared.patterns.PatternFault.TheVariants.{Memory};
 
     ghost from_gives = { λ _ fault. fault ≡ Memory };
 
