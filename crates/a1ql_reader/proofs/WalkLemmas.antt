@@ -1,10 +1,11 @@
 -- What a walk says of each kind of value.
-use Rattle.std.proofs.Common.{◌≡◌, ℕ, ℤ, List, [], ◌∷◌, map, Bool, refl, sym, ap, ◌∙◌, subst}
-use Rattle.a1_json.specs.declared.tree.Json.{Json, map-Json, roll-Json, fold-Json}
+use Rattle.std.proofs.Common.{◌≡◌, ℕ, ℤ, List, [], ◌∷◌, map, Bool, refl, sym, ap, ◌∙◌, subst, rules}
+use Rattle.a1_json.specs.declared.tree.Json.{Json, map-Json, roll-Json, fold-Json, the_lemmas}
 use Rattle.a1_json.specs.declared.tree.Json.TheOpen.{Json-F}
 use Rattle.a1_json.specs.declared.tree.Json.TheVariants as json
 use Rattle.a1_json.specs.declared.tree.Json.TheFolds.{fold-roll-Json, ind-Json}
 use Rattle.a1_json.specs.Fields.{Fields}
+use Rattle.a1ql_reader.specs.Shapes.{items_in, fields_in}
 use Rattle.a1ql_reader.specs.Walk.{Parts, level_of, walk_step, walk}
 
 module _ {A : Type 0} (step : Json → Json-F A → A) where
@@ -86,3 +87,14 @@ module _ {A : Type 0} (step : Json → Json-F A → A) where
 
   pub at_object : (j : Json) (ms : Fields) → j ≡ json.Members ms → walk step j ≡ step j (Json-F.Members (map (λ m. (m.0, walk step m.1)) ms))
   at_object j ms is = at_level j (Json-F.Members ms) (json.rolls-Members ms ∙ sym is)
+
+-- what is in a list, and in an object
+pub items_is : (j : Json) (items : List Json) → j ≡ json.List items → items_in j ≡ items
+items_is j items is =
+    let opened : items_in (json.List items) ≡ items = search (rules, the_lemmas) in
+    ap items_in is ∙ opened
+
+pub fields_is : (j : Json) (ms : Fields) → j ≡ json.Members ms → fields_in j ≡ ms
+fields_is j ms is =
+    let opened : fields_in (json.Members ms) ≡ ms = search (rules, the_lemmas) in
+    ap fields_in is ∙ opened
