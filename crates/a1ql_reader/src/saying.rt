@@ -158,6 +158,7 @@ fn end_in(alloc: Global, members: &[(Txt, Json)]) -> Result<VertexPattern, Patte
 }
 
 #[cycle(saying)]
+#[tactic(auto, using(crate::proofs::EachLemmas::each))]
 fn hops_of(alloc: Global, items: &[Json]) -> Result<Items<Hop>, PatternFault>
     ensures { Reads result (hops_of (map says items.now)) }
 {
