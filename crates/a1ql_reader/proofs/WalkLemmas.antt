@@ -59,7 +59,7 @@ module _ {A : Type 0} (step : Json → Json-F A → A) where
   level_told (Json-F.Members ms) = ap Json-F.Members (members_told ms)
 
   -- what is said of a level
-  walk_roll : (level : Json-F Json) → walk step (roll-Json level) ≡ step (roll-Json level) (map-Json Json A (walk step) level)
+  pub walk_roll : (level : Json-F Json) → walk step (roll-Json level) ≡ step (roll-Json level) (map-Json Json A (walk step) level)
   unfolding walk
   walk_roll level =
       let rolled = fold-roll-Json (Json × A) (walk_step step) level in
