@@ -1,5 +1,5 @@
 -- What a value says, by its kind.
-use Rattle.std.proofs.Common.{◌≡◌, ℕ, List, map, Bool, Err, sym, ap, ◌∙◌}
+use Rattle.std.proofs.Common.{◌≡◌, List, map, Bool, Err, sym, ap, ◌∙◌}
 use Rattle.a1_json.specs.declared.tree.Json.{Json, roll-Json}
 use Rattle.a1_json.specs.declared.tree.Json.TheOpen.{Json-F}
 use Rattle.a1_json.specs.declared.tree.Json.TheVariants as json

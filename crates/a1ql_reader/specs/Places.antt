@@ -1,5 +1,5 @@
 -- What stands where in a pattern.
-use Rattle.std.specs.Prelude.{ℕ, List, [], ◌∷◌, Bool, true, false, ◌||◌, nat_eq, Option, Some, None, is_some, if◌then◌else◌, codes}
+use Rattle.std.specs.Prelude.{ℕ, List, [], ◌∷◌, Bool, true, false, nat_eq, Option, Some, None, is_some, if◌then◌else◌, codes}
 use Rattle.std.specs.Str.{bytes_eq}
 use Rattle.a1ql_reader.specs.declared.patterns.Comparison.{Comparison}
 use Rattle.a1ql_reader.specs.declared.patterns.Comparison.TheVariants.{Eq, Ne, Lt, Le, Gt, Ge}

@@ -1,11 +1,10 @@
 -- What the values in a pattern say, apart from the patterns inside it.
-use Rattle.std.specs.Prelude.{ℕ, ℤ, List, [], ◌∷◌, ◌++◌, Bool, true, false, Option, Some, None, option_map, option_and_then, if◌then◌else◌, Result, Ok, codes}
+use Rattle.std.specs.Prelude.{ℕ, ℤ, List, [], ◌∷◌, ◌++◌, Bool, false, Option, Some, None, option_map, if◌then◌else◌, codes}
 use Rattle.std.specs.Str.{bytes_eq}
 use Rattle.a1_json.specs.declared.tree.Json.{Json}
-use Rattle.a1_json.specs.Fields.{Fields, member_of, as_text, as_int}
+use Rattle.a1_json.specs.Fields.{Fields, as_text, as_int}
 use Rattle.a1_value.specs.declared.given.Given.{Given}
 use Rattle.a1_value.specs.declared.given.Given.TheVariants as given
-use Rattle.type_schema.specs.Refusals.{need}
 use Rattle.a1ql_reader.specs.declared.patterns.Comparison.{Comparison}
 use Rattle.a1ql_reader.specs.declared.patterns.Comparison.TheVariants.{Eq}
 use Rattle.a1ql_reader.specs.declared.patterns.Test.{Test}

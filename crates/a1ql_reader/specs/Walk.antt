@@ -1,8 +1,7 @@
 -- A walk over a JSON tree: what is said of a value, by what is said of each value inside.
-use Rattle.std.specs.Prelude.{ℕ, List, map}
+use Rattle.std.specs.Prelude.{ℕ, List}
 use Rattle.a1_json.specs.declared.tree.Json.{Json, map-Json, roll-Json, fold-Json}
 use Rattle.a1_json.specs.declared.tree.Json.TheOpen.{Json-F}
-use Rattle.a1_json.specs.Fields.{Fields}
 
 -- the members of an object, each with what is said of its value
 abbrev pub Parts : Type 0 → Type 0
