@@ -1,5 +1,5 @@
 -- The longest of several paths is within a bound exactly where each is.
-use Rattle.std.proofs.Common.{◌≡◌, ℕ, ◌≤◌, ◌<◌, max, nat_le, map, option_map, Bool, true, false, ◌&&◌, refl, ap, ◌∙◌, arith}
+use Rattle.std.proofs.Common.{◌≡◌, ℕ, max, nat_le, map, option_map, Bool, true, false, ◌&&◌, refl, ap, ◌∙◌, arith}
 use Rattle.std.proofs.Math.Nat.{le-max_left, le-max_right}
 use Rattle.std.proofs.lemmas.Bool.{le-leb, lt-leb, leb-true, leb-false}
 use Rattle.a1ql_reader.specs.declared.patterns.VertexPattern.{VertexPattern, out-VertexPattern, fold_out-VertexPattern}

@@ -2,3 +2,4 @@ pub mod EachLemmas
 pub mod LayerLemmas
 pub mod DepthLemmas
 pub mod PlanLemmas
+pub mod Examples
