@@ -1,0 +1,3 @@
+pub mod WalkLemmas
+pub mod EachLemmas
+pub mod SaysLemmas
