@@ -1,6 +1,6 @@
 -- That a tree of the right shape says a pattern.
-use Rattle.std.proofs.Common.{◌≡◌, ℕ, List, [], ◌∷◌, map, Bool, true, false, ◌&&◌, Option, Some, None, Result, Ok, Err, refl, sym, ap, ◌∙◌, subst, rules, true≢false}
-use Rattle.std.specs.Prelude.{codes, is_ok, is_some, if◌then◌else◌, option_and_then}
+use Rattle.std.proofs.Common.{◌≡◌, ℕ, List, [], ◌∷◌, map, Bool, true, false, Option, Some, None, Result, Ok, Err, refl, sym, ap, ◌∙◌, subst, rules, true≢false}
+use Rattle.std.specs.Prelude.{codes, is_ok, is_some, option_and_then}
 use Rattle.std.specs.Str.{bytes_eq}
 use Rattle.std.specs.List.{list_all}
 use Rattle.std.proofs.lemmas.Bool.{and_parts}
@@ -13,7 +13,6 @@ use Rattle.type_schema.specs.Refusals.{need, passing, unless}
 use Rattle.a1ql_reader.specs.declared.places.Place.{Place}
 use Rattle.a1ql_reader.specs.declared.places.Place.TheVariants as at
 use Rattle.a1ql_reader.specs.declared.patterns.Hop.{Hop}
-use Rattle.a1ql_reader.specs.declared.patterns.VertexPattern.{VertexPattern}
 use Rattle.a1ql_reader.specs.Places.{direction, place_of}
 use Rattle.a1ql_reader.specs.Walk.{Parts}
 use Rattle.a1ql_reader.specs.Shapes.{Fits, fits, fits_step, fields_in, has, member_fits, members_fit, is_one, is_vertex, is_edge}

@@ -1,4 +1,4 @@
-//! That a tree has a pattern exactly where neither word is true of it.
+//! What is proved of all trees.
 ghost use Rattle.a1ql_reader.specs.Pattern.{PatternLaw};
 
 /// A tree of the right shape in which each `_type` is a name has a pattern: what it says lacks no part.
