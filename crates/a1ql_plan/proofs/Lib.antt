@@ -1,0 +1,4 @@
+pub mod EachLemmas
+pub mod LayerLemmas
+pub mod DepthLemmas
+pub mod PlanLemmas
