@@ -1,3 +1,4 @@
 pub mod WalkLemmas
 pub mod EachLemmas
 pub mod SaysLemmas
+pub mod ShapedLemmas

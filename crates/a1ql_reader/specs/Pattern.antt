@@ -1,5 +1,5 @@
 -- The pattern that a JSON tree stands for.
-use Rattle.std.specs.Prelude.{◌≡◌, ℕ, List, [], ◌∷◌, Bool, not, Option, Some, None, Result, Ok, Err, if◌then◌else◌, codes, ⊤, option_and_then}
+use Rattle.std.specs.Prelude.{◌≡◌, ℕ, List, [], ◌∷◌, Bool, not, Option, Some, None, Result, Ok, Err, if◌then◌else◌, codes, ⊤, option_and_then, is_ok, IsTrue}
 use Rattle.std.specs.Str.{bytes_eq}
 use Rattle.a1_json.specs.declared.tree.Json.{Json}
 use Rattle.a1_json.specs.declared.tree.Json.TheOpen.{Json-F}
@@ -106,3 +106,7 @@ Reads (Ok x) wanted = wanted ≡ Ok x
 Reads (Err fault.Shape) wanted = wanted ≡ Err Shape
 Reads (Err fault.Name) wanted = wanted ≡ Err Name
 Reads (Err fault.Memory) wanted = ⊤
+
+-- a tree of the right shape whose names are names has a pattern
+abbrev pub PatternLaw : Type 0
+PatternLaw = (json : Json) → IsTrue (has_shape json) → IsTrue (has_names json) → IsTrue (is_ok (pattern_of json))

@@ -4,6 +4,7 @@
 //! a type or an attribute is there, and what a pattern finds, is said above it.
 #![tactic(auto)]
 
+mod laws;
 mod naming;
 mod patterns;
 mod places;
@@ -14,5 +15,6 @@ mod shapes;
 mod tests;
 mod values;
 
+pub use laws::patterns_of_shapes;
 pub use patterns::{Comparison, Hop, PatternFault, Select, Test, VertexPattern};
 pub use reading::pattern;

@@ -8,8 +8,8 @@ use crate::{PatternFault, VertexPattern};
 use a1_json::Json;
 use std::alloc::Global;
 
-/// Reads a tree as a pattern. `Shape` comes where the tree does not have the form of a vertex pattern anywhere in it,
-/// and `Name` where it has, and some `_type` in it is no name.
+/// Reads a tree as a pattern. `Shape` comes exactly where some value in the tree does not have the form of its place,
+/// and `Name` where all have, and some `_type` is no name.
 #[tactic(auto, unfolding(crate::specs::Pattern::pattern_of, type_schema::specs::Refusals::unless))]
 pub fn pattern(alloc: Global, json: &Json) -> Result<VertexPattern, PatternFault>
     ensures { Reads result (pattern_of json.now) }

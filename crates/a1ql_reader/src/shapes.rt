@@ -32,10 +32,14 @@ fn is_among(items: &[Json], text: &Json) -> bool
 fn differ(items: &[Json]) -> bool
     ensures { result ≡ differ items.now }
 {
-    match items {
-        [first, rest @ ..] => !is_among(rest, first) && differ(rest),
-        [] => true,
+    let mut rest = items;
+    while let [first, later @ ..] = rest {
+        if is_among(later, first) {
+            return false;
+        }
+        rest = later;
     }
+    true
 }
 
 fn are_texts(items: &[Json]) -> bool

@@ -143,6 +143,84 @@ fn says_what_stands_there(rt: HostRuntime) -> Result<(), Fail> {
     Ok(())
 }
 
+// The vertex pattern behind the next hop, where that hop has this direction and is of this type.
+fn behind<'a>(pattern: &'a VertexPattern, out: bool, kind: &str) -> Option<&'a VertexPattern> {
+    let hop = pattern.hop.as_ref()?.get();
+    if hop.out == out && hop.kind.as_text() == kind {
+        Some(hop.to.get())
+    } else {
+        None
+    }
+}
+
+fn is_text(test: Option<&Test>, attr: &str, text: &str) -> bool {
+    match test {
+        Some(test) => {
+            test.attr.as_text() == attr
+                && test.op == Comparison::Eq
+                && matches!(&test.value, Given::Text(t) if t.as_text() == text)
+        }
+        None => false,
+    }
+}
+
+// Actors in the films of `a`, counted.
+#[test]
+fn reads_two_hops(rt: HostRuntime) -> Result<(), Fail> {
+    let root = read(
+        rt.alloc(),
+        r#"{"_type":"actor","id":"a","_out_edge":{"_type":"acts","_vertex":{"_type":"film","_in_edge":{"_type":"acts","_vertex":{"_type":"actor","_select":["_count(*)"]}}}}}"#,
+    )?;
+    assert!(rt; is_text(root.tests.get(0), "id", "a"));
+    let films = behind(&root, true, "acts").ok_or("no films")?;
+    assert_eq!(rt; films.kind.as_text(), "film");
+    assert!(rt; films.tests.is_empty());
+    let actors = behind(films, false, "acts").ok_or("no actors")?;
+    assert_eq!(rt; actors.kind.as_text(), "actor");
+    assert!(rt; matches!(actors.select, Select::Count));
+    Ok(())
+}
+
+// Actors of the film `f1`.
+#[test]
+fn reads_one_hop(rt: HostRuntime) -> Result<(), Fail> {
+    let root = read(
+        rt.alloc(),
+        r#"{"_type":"film","id":"f1","_in_edge":{"_type":"acts","_vertex":{"_type":"actor"}}}"#,
+    )?;
+    assert!(rt; is_text(root.tests.get(0), "id", "f1"));
+    let actors = behind(&root, false, "acts").ok_or("no actors")?;
+    assert!(rt; actors.hop.is_none());
+    assert!(rt; matches!(actors.select, Select::All));
+    Ok(())
+}
+
+// Films from 2000 on.
+#[test]
+fn reads_a_comparison(rt: HostRuntime) -> Result<(), Fail> {
+    let root = read(rt.alloc(), r#"{"_type":"film","year":{"_ge":2000}}"#)?;
+    assert_eq!(rt; root.tests.len(), 1);
+    assert!(rt; is_test(root.tests.get(0), "year", Comparison::Ge, 2000));
+    assert!(rt; root.matches.is_empty());
+    Ok(())
+}
+
+// Actors who played a hero.
+#[test]
+fn reads_a_match(rt: HostRuntime) -> Result<(), Fail> {
+    let root = read(
+        rt.alloc(),
+        r#"{"_type":"actor","_match":[{"_out_edge":{"_type":"acts","role":"hero","_vertex":{"_type":"film"}}}]}"#,
+    )?;
+    assert!(rt; root.tests.is_empty() && root.hop.is_none());
+    assert_eq!(rt; root.matches.len(), 1);
+    let entry = root.matches.get(0).ok_or("no match")?;
+    assert!(rt; entry.out);
+    assert!(rt; is_text(entry.tests.get(0), "role", "hero"));
+    assert_eq!(rt; entry.to.get().kind.as_text(), "film");
+    Ok(())
+}
+
 #[test]
 fn tells_what_is_selected(rt: HostRuntime) -> Result<(), Fail> {
     assert!(rt; matches!(read(rt.alloc(), r#"{"_type":"a"}"#)?.select, Select::All));
