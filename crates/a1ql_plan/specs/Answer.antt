@@ -91,7 +91,8 @@ leads_by out kind tests v e =
     is_vertex v (near out e.0) && (is_type kind e.0.graph e.0.kind && all_hold tests e.1)
 
 -- the vertices that stand, and that some such edge joins to a vertex of the set
-abbrev pub next_set : Bool → (VertexName → EdgeName × Record → Bool) → PlanSays → Graph → List Vertex → List Vertex
+abbrev pub next_set :
+    Bool → (VertexName → EdgeName × Record → Bool) → PlanSays → Graph → List Vertex → List Vertex
 next_set out leads to g set =
     filter
     (λ w. to.stands g w && list_any (λ v. list_any (λ e. leads v.0 e && is_vertex w.0 (far out e.0)) g.edges) set)
