@@ -1,5 +1,6 @@
 pub mod StreamLemmas
 pub mod EndingLemmas
+pub mod ClapLemmas
 pub mod WordLemmas
 pub mod RunLemmas
 pub mod StepsLemmas

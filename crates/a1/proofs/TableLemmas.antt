@@ -28,6 +28,14 @@ lawful (command.Steps options) = steps_lawful options.nodes
 
 -- ---- from what a command serves and writes to the table
 
+append_none : (known : Option (List ℕ)) → append_known known [] ≡ known
+append_none None = refl
+append_none (Some bytes) = ap Some (append-nil bytes)
+
+says_memory : (c : Option Command) (o : Outside) (run : Run) → run ≡ empty_run → Says c o.source cause.Memory [] run
+says_memory None o run none = (refl, none)
+says_memory (Some c) o run none = (refl, none)
+
 module _ (o : Outside) (status : ℕ) (run : Run) (rests : IsUntouched o.store) where
   told : (c : Option Command) (why : Cause) (text : List ℕ) → Says c o.source why text run → Tells o.sink why text status → EndsWith c o status run
   told c why text says (extent, is, wrote) = record {
@@ -39,6 +47,10 @@ module _ (o : Outside) (status : ℕ) (run : Run) (rests : IsUntouched o.store) 
   -- words that are no command
   pub ends_usage : run ≡ empty_run → Tells o.sink cause.Usage usage_text status → EndsWith None o status run
   ends_usage none tells = told None cause.Usage usage_text (refl, none) tells
+
+  -- memory was wanting for the words
+  pub ends_memory : (c : Option Command) → run ≡ empty_run → status ≡ 6 → o.sink.after ≡ o.sink.before → EndsWith c o status run
+  ends_memory c none is same = told c cause.Memory [] (says_memory c o run none) (Whole, is, same ∙ sym (append_none o.sink.before))
 
   pub ends_served : (c : Command) (served : Result Served InputFault) → Serves (rules_of c) o.source served → Finishes served o.sink status run → EndsWith (Some c) o status run
   ends_served c (Ok served) serves (tells, same) = told (Some c) cause.Done served.text (subst (λ r. (rules_of c).IsServed o.source served.text r) (sym same) serves) tells
@@ -56,10 +68,6 @@ ends_beside c source sink status run store h rests = record {
 }
 
 -- ---- from the table to the clauses of the top call
-
-append_none : (known : Option (List ℕ)) → append_known known [] ≡ known
-append_none None = refl
-append_none (Some bytes) = ap Some (append-nil bytes)
 
 module _ (o : Outside) (run : Run) where
   -- what a command that the words name has served

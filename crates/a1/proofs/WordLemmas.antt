@@ -1,22 +1,19 @@
 -- Numbers in words, and how many nodes a command has.
 use Rattle.std.proofs.Common.{◌≡◌, ◌≢◌, ℕ, ◌^◌, ◌<◌, ◌≤◌, List, [], ◌∷◌, Bool, true, false, Result, Ok, Err, Option, Some, None, refl, sym, subst, ap, ◌∙◌, arith, slice_index}
-use Rattle.std.specs.Prelude.{nat_le, ◌&&◌, ◌||◌, ⊤, IfSome, if◌then◌else◌, option_and_then, option_map, is_some, unwrap_or, fold, codes}
-use Rattle.std.specs.List.{list_any, before_first, after_first}
+use Rattle.std.specs.Prelude.{nat_le, ◌&&◌, ⊤, IfSome, if◌then◌else◌, option_and_then, option_map, codes}
 use Rattle.std.specs.Result.{result_ok}
 use Rattle.std.specs.Str.{bytes_eq, all_ascii_digits}
 use Rattle.std.specs.Str.Parse.{digits_value, without_leading_plus, ParsesUnsigned}
 use Rattle.std.proofs.lemmas.Str.Parse.{IsNumeralModel, numerals_by_value, tells_all_ascii_digits, parse_digits, without_leading_plus_none}
 use Rattle.std.proofs.lemmas.Bool.Decides.{nat_tests}
+use Rattle.clap.specs.declared.parser.matches.ArgMatches.{ArgMatches}
 use Rattle.a1_base.specs.declared.limits.TheConstants.{NODE_LIMIT}
-use Rattle.a1.specs.declared.options.TheConstants.{DEFAULT_NODES, RETRIES_LIMIT}
-use Rattle.a1.specs.declared.options.OptionName.{OptionName}
-use Rattle.a1.specs.declared.options.OptionName.TheVariants as name
-use Rattle.a1.specs.declared.options.Options.{Options}
-use Rattle.a1.specs.declared.options.Reading.{Reading}
-use Rattle.a1.specs.declared.words.StepsOptions.{StepsOptions}
+use Rattle.a1.specs.declared.options.TheConstants.{DEFAULT_NODES}
+use Rattle.a1.specs.declared.options.StepsOptions.{StepsOptions}
 use Rattle.a1.specs.declared.words.Command.{Command}
 use Rattle.a1.specs.declared.words.Command.TheVariants as command
-use Rattle.a1.specs.Words.{yes_or_no, number_in, option_named, with_option, settled, is_equals, opened, read_on, read_word, no_options, ended, options_in, steps_options, command_with, command_of}
+use Rattle.a1.specs.Words.{Use, uses_in, value_of, read_or, number_in, nodes_of, run_of, steps_names, steps_options, steps_of, command_of}
+use Rattle.a1.specs.Found.{HasUses, IsFoundBy}
 
 numerals : IsNumeralModel (λ ds. all_ascii_digits ds ≡ true) (digits_value 10)
 numerals = numerals_by_value _ tells_all_ascii_digits
@@ -59,7 +56,18 @@ module _ {E : Type 0} (low high : ℕ) where
       let value : n ≡ digits_value 10 word = (let e : Some m ≡ Some n = is in let k : m ≡ n = cc in sym k ∙ read.1) in
       rw (digits, at_most low (digits_value 10 word) (subst (λ v. low ≤ v) value over), at_most (digits_value 10 word) high (subst (λ v. v ≤ high) value under)) (ap Some value)
 
--- ---- options that are given
+-- ---- what is found
+
+module _ {T : Type 0} where
+  pub uses_some : (uses : Option (List Use)) (found : ArgMatches) (f : List Use → Option T) (r : Option T) → IsFoundBy uses (Some found) → ((given : List Use) → HasUses given found → r ≡ f given) → r ≡ option_and_then f uses
+  uses_some None found f r fits told = absurd fits
+  uses_some (Some given) found f r fits told = told given fits
+
+  pub uses_none : (uses : Option (List Use)) (f : List Use → Option T) → IsFoundBy uses None → None ≡ option_and_then f uses
+  uses_none None f fits = refl
+  uses_none (Some given) f fits = absurd fits
+
+-- ---- the number of nodes of `steps`
 
 module _ {A : Type 0} where
   if_one : (P : A → Type 0) (test : Bool) (first second : Option A) → IfSome first P → IfSome second P → IfSome (if test then first else second) P
@@ -81,12 +89,6 @@ module _ {A : Type 0} where
 abbrev AreNodes : ℕ → Type 0
 AreNodes n = (1 ≤ n) × (n ≤ NODE_LIMIT)
 
-abbrev HasNodes : Options → Type 0
-HasNodes given = IfSome given.nodes AreNodes
-
-abbrev HasReadNodes : Reading → Type 0
-HasReadNodes reading = HasNodes reading.given
-
 at_most_if : (a b : ℕ) → nat_le a b ≡ true → a ≤ b
 at_most_if a b h = grind (arith, nat_tests)
 
@@ -107,52 +109,26 @@ number_within : (low high : ℕ) (word : List ℕ) → IfSome (number_in low hig
 number_within low high [] = tt
 number_within low high (b ∷ bs) = within low high (digits_value 10 (b ∷ bs)) (all_ascii_digits (b ∷ bs))
 
-with_nodes : (given : Options) (n : OptionName) (value : List ℕ) → HasNodes given → IfSome (with_option given n value) HasNodes
-with_nodes given name.Nodes value h = if_one HasNodes (is_some given.nodes) None _ tt (map_some AreNodes HasNodes _ (number_in 1 NODE_LIMIT value) (number_within 1 NODE_LIMIT value) (λ n is. is))
-with_nodes given name.Retries value h = if_one HasNodes (is_some given.retries) None _ tt (map_some (λ _. ⊤) HasNodes _ (number_in 0 RETRIES_LIMIT value) (any _) (λ n is. h))
-with_nodes given name.Beside value h = if_one HasNodes (is_some given.beside) None _ tt (map_some (λ _. ⊤) HasNodes _ (yes_or_no value) (any _) (λ b is. h))
+nodes_or : (value : Option (List ℕ)) → IfSome (read_or DEFAULT_NODES (number_in 1 NODE_LIMIT) value) AreNodes
+nodes_or None = (omega arith, omega arith)
+nodes_or (Some word) = number_within 1 NODE_LIMIT word
 
-settled_nodes : (given : Options) (n : OptionName) (value : List ℕ) → HasNodes given → IfSome (option_map settled (with_option given n value)) HasReadNodes
-settled_nodes given n value h = map_some HasNodes HasReadNodes settled (with_option given n value) (with_nodes given n value h) (λ more is. is)
-
-opened_nodes : (given : Options) (word : List ℕ) → HasNodes given → IfSome (opened given word) HasReadNodes
-opened_nodes given word h = if_one HasReadNodes (list_any is_equals word) _ _
-    (then_some (λ _. ⊤) HasReadNodes _ (option_named (before_first is_equals word)) (any _) (λ n is. settled_nodes given n (after_first is_equals word) h))
-    (map_some (λ _. ⊤) HasReadNodes _ (option_named word) (any _) (λ n is. h))
-
-read_on_nodes : (waiting : Option OptionName) (given : Options) (word : List ℕ) → HasNodes given → IfSome (read_on waiting given word) HasReadNodes
-read_on_nodes None given word h = opened_nodes given word h
-read_on_nodes (Some n) given word h = settled_nodes given n word h
-
-read_nodes : (reading : Option Reading) (word : List ℕ) → IfSome reading HasReadNodes → IfSome (read_word reading word) HasReadNodes
-read_nodes None word h = tt
-read_nodes (Some reading) word h = read_on_nodes reading.waiting reading.given word h
-
-all_nodes : (reading : Option Reading) (words : List (List ℕ)) → IfSome reading HasReadNodes → IfSome (fold read_word reading words) HasReadNodes
-all_nodes reading [] h = h
-all_nodes reading (word ∷ words) h = all_nodes (read_word reading word) words (read_nodes reading word h)
-
-options_nodes : (words : List (List ℕ)) → IfSome (options_in words) HasNodes
-options_nodes words = then_some HasReadNodes HasNodes ended (fold read_word (Some (settled no_options)) words) (all_nodes _ words tt)
-    (λ reading h. if_one HasNodes (is_some reading.waiting) None (Some reading.given) tt h)
-
-given_or_default : (nodes : Option ℕ) → IfSome nodes AreNodes → AreNodes (unwrap_or nodes DEFAULT_NODES)
-given_or_default None h = (omega arith, omega arith)
-given_or_default (Some n) h = h
+abbrev HasNodes : StepsOptions → Type 0
+HasNodes options = AreNodes options.nodes
 
 abbrev HasStepsNodes : Command → Type 0
 HasStepsNodes (command.Run options) = ⊤
-HasStepsNodes (command.Steps options) = AreNodes options.nodes
-
-command_nodes : (word : List ℕ) (given : Options) → HasNodes given → IfSome (command_with word given) HasStepsNodes
-command_nodes word given h = if_one HasStepsNodes (bytes_eq word (codes "run")) _ _ tt (if_one HasStepsNodes (bytes_eq word (codes "steps")) _ None
-    (map_some (λ (o : StepsOptions). AreNodes o.nodes) HasStepsNodes command.Steps (steps_options given)
-    (if_one (λ (o : StepsOptions). AreNodes o.nodes) (is_some given.retries || is_some given.beside) None _ tt (given_or_default given.nodes h))
-    (λ o is. is)) tt)
+HasStepsNodes (command.Steps options) = HasNodes options
 
 of_words : (words : List (List ℕ)) → IfSome (command_of words) HasStepsNodes
 of_words [] = tt
-of_words (word ∷ words) = then_some HasNodes HasStepsNodes (command_with word) (options_in words) (options_nodes words) (command_nodes word)
+of_words (word ∷ words) = if_one HasStepsNodes (bytes_eq word (codes "run")) _ _
+    (map_some (λ _. ⊤) HasStepsNodes command.Run (run_of words) (any (run_of words)) (λ options is. tt))
+    (if_one HasStepsNodes (bytes_eq word (codes "steps")) _ None
+    (map_some HasNodes HasStepsNodes command.Steps (steps_of words)
+    (then_some (λ _. ⊤) HasNodes steps_options (uses_in steps_names words) (any (uses_in steps_names words))
+    (λ given is. map_some AreNodes HasNodes _ (nodes_of given) (nodes_or (value_of (codes "nodes") given)) (λ n is. is)))
+    (λ options is. is)) tt)
 
 -- `steps` has a number of nodes that a farm can have
 pub steps_nodes : (words : List (List ℕ)) (options : StepsOptions) → command_of words ≡ Some (command.Steps options) → (1 ≤ options.nodes) × (options.nodes ≤ NODE_LIMIT)

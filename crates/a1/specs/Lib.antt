@@ -1,6 +1,7 @@
 pub mod Streams
 pub mod Outside
 pub mod Words
+pub mod Found
 pub mod Endings
 pub mod Rules
 pub mod RunCommand

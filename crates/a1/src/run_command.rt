@@ -7,12 +7,12 @@ ghost use Rattle.answer_text.specs.Legal.{IsLegal};
 ghost use Rattle.run_text.specs.Script.{script_of, request_count, asked_in};
 ghost use Rattle.a1.specs.Outside.{side, outside, IsReadWhole};
 ghost use Rattle.a1.specs.Words.{texts_of, command_of};
-ghost use Rattle.a1.specs.declared.words.RunOptions.{RunOptions};
+ghost use Rattle.a1.specs.declared.options.RunOptions.{RunOptions};
 ghost use Rattle.a1.specs.Rules.{IsInputFault, Serves};
 ghost use Rattle.a1.specs.RunCommand.{run_rules, AreServed};
 ghost use Rattle.a1.specs.Commands.{EndsWith};
 
-use crate::ending::Outcome;
+use crate::ending::{OUT_OF_MEMORY, Outcome};
 use crate::finishing::{Served, finish, say_usage};
 use crate::input::{InputFault, text_in};
 use crate::words::{Command, command_of};
@@ -118,9 +118,12 @@ pub fn run_call<T: Wait, R: Source, W: Sink, S: Store, G: Gate>(
         (outside (side R.left R.faults source.old source.new) (side W.written W.faults sink.old sink.new)
         (side S.items S.faults _store.old _store.new)) result.status result.run }
 {
-    let Some(Command::Run(_)) = command_of(words) else {
-        return Outcome::without_run(alloc, say_usage(sink));
-    };
-    let served = serve_run(alloc, source);
-    finish(alloc, sink, served)
+    match command_of(alloc, words) {
+        Ok(Some(Command::Run(_))) => {
+            let served = serve_run(alloc, source);
+            finish(alloc, sink, served)
+        }
+        Ok(_) => Outcome::without_run(alloc, say_usage(sink)),
+        Err(Memory) => Outcome::without_run(alloc, OUT_OF_MEMORY),
+    }
 }

@@ -6,11 +6,12 @@ ghost use Rattle.run_text.specs.Run.{empty_run};
 ghost use Rattle.steps_text.specs.EventText.{IsTextOf, IsEvent};
 ghost use Rattle.a1.specs.Outside.{side, outside, no_store, IsReadWhole};
 ghost use Rattle.a1.specs.Words.{texts_of, command_of};
-ghost use Rattle.a1.specs.declared.words.StepsOptions.{StepsOptions};
+ghost use Rattle.a1.specs.declared.options.StepsOptions.{StepsOptions};
 ghost use Rattle.a1.specs.Rules.{IsInputFault, Serves};
 ghost use Rattle.a1.specs.StepsCommand.{steps_rules, answers_text, AreAnswers, IsAnswered};
 ghost use Rattle.a1.specs.Commands.{EndsWith};
 
+use crate::ending::OUT_OF_MEMORY;
 use crate::finishing::{Served, finish, say_usage};
 use crate::input::{InputFault, text_in};
 use crate::words::{Command, command_of};
@@ -101,9 +102,12 @@ pub fn steps_call<R: Source, W: Sink>(
         (outside (side R.left R.faults source.old source.new) (side W.written W.faults sink.old sink.new) no_store)
         result empty_run }
 {
-    let Some(Command::Steps(options)) = command_of(words) else {
-        return say_usage(sink);
-    };
-    let served = serve_steps(alloc, options.nodes, source);
-    finish(alloc, sink, served).status
+    match command_of(alloc, words) {
+        Ok(Some(Command::Steps(options))) => {
+            let served = serve_steps(alloc, options.nodes, source);
+            finish(alloc, sink, served).status
+        }
+        Ok(_) => say_usage(sink),
+        Err(Memory) => OUT_OF_MEMORY,
+    }
 }

@@ -10,12 +10,12 @@ ghost use Rattle.a1.specs.RunCommand.{IsLegalRun};
 ghost use Rattle.a1.specs.Commands.{rules_of, EndsWith};
 ghost use Rattle.a1.specs.declared.words.Command.{Command};
 
-use crate::ending::Outcome;
+use crate::ending::{OUT_OF_MEMORY, Outcome};
 use crate::finishing::say_usage;
 use crate::run_command::run_call;
 use crate::steps_command::steps_call;
 use crate::words::{Command, command_of};
-use a1_base::{Gate, Sink, Source};
+use a1_base::{Gate, Memory, Sink, Source};
 use object_store::Store;
 use std::alloc::Global;
 use std::sync::Wait;
@@ -34,13 +34,14 @@ fn dispatch<T: Wait, R: Source, W: Sink, S: Store, G: Gate>(
         (outside (side R.left R.faults source.old source.new) (side W.written W.faults sink.old sink.new)
         (side S.items S.faults store.old store.new)) result.status result.run }
 {
-    match command_of(words) {
-        Some(Command::Run(_)) => run_call(rt, alloc, words, source, sink, store, gate),
-        Some(Command::Steps(_)) => Outcome::without_run(
+    match command_of(alloc, words) {
+        Ok(Some(Command::Run(_))) => run_call(rt, alloc, words, source, sink, store, gate),
+        Ok(Some(Command::Steps(_))) => Outcome::without_run(
             alloc,
             steps_call(alloc, words, source, sink),
         ),
-        None => Outcome::without_run(alloc, say_usage(sink)),
+        Ok(None) => Outcome::without_run(alloc, say_usage(sink)),
+        Err(Memory) => Outcome::without_run(alloc, OUT_OF_MEMORY),
     }
 }
 

@@ -1,26 +1,11 @@
 //! The words behind the program's name.
-ghost use Rattle.std.specs.Prelude.{◌≡◌};
-ghost use Rattle.a1.specs.Words.{texts_of, run_options, steps_options, command_with, command_of};
+ghost use Rattle.std.specs.Prelude.{◌≡◌, IfOk, option_map};
+ghost use Rattle.a1.specs.declared.words.Command.TheVariants as command;
+ghost use Rattle.a1.specs.Words.{texts_of, command_of};
 
-use crate::options::{DEFAULT_NODES, DEFAULT_RETRIES, Options, options_in};
-
-/// The options of `run`.
-#[derive(Clone, Copy, Debug, PartialEq, Eq)]
-pub struct RunOptions {
-    /// How many nodes the farm has, 1 to 16.
-    pub nodes: u32,
-    /// How many times a transaction is tried again, up to 1,000,000.
-    pub retries: u32,
-    /// Whether other actors run beside the sessions.
-    pub beside: bool,
-}
-
-/// The options of `steps`.
-#[derive(Clone, Copy, Debug, PartialEq, Eq)]
-pub struct StepsOptions {
-    /// How many nodes the farm has, 1 to 16.
-    pub nodes: u32,
-}
+use crate::options::{RunOptions, StepsOptions, run_of, steps_of};
+use a1_base::Memory;
+use std::alloc::Global;
 
 /// A command of the program.
 #[derive(Clone, Copy, Debug, PartialEq, Eq)]
@@ -31,43 +16,29 @@ pub enum Command {
     Steps(StepsOptions),
 }
 
-fn run_options(given: Options) -> RunOptions
-    ensures { result ≡ run_options given }
+fn run_command(options: Option<RunOptions>) -> Option<Command>
+    ensures { result ≡ option_map command.Run options }
 {
-    RunOptions {
-        nodes: given.nodes.unwrap_or(DEFAULT_NODES),
-        retries: given.retries.unwrap_or(DEFAULT_RETRIES),
-        beside: given.beside.unwrap_or(true),
-    }
+    Some(Command::Run(options?))
 }
 
-fn steps_options(given: Options) -> Option<StepsOptions>
-    ensures { result ≡ steps_options given }
+fn steps_command(options: Option<StepsOptions>) -> Option<Command>
+    ensures { result ≡ option_map command.Steps options }
 {
-    if given.retries.is_some() || given.beside.is_some() {
-        return None;
-    }
-    Some(StepsOptions {
-        nodes: given.nodes.unwrap_or(DEFAULT_NODES),
-    })
-}
-
-// The command of this name with these options.
-fn command_with(word: &str, given: Options) -> Option<Command>
-    ensures { result ≡ command_with word.now given }
-{
-    match word {
-        "run" => Some(Command::Run(run_options(given))),
-        "steps" => Some(Command::Steps(steps_options(given)?)),
-        _ => None,
-    }
+    Some(Command::Steps(options?))
 }
 
 /// The command that the words name, with the options that they give it; none where the first word names no command, or
 /// the others give an option that it does not have, or one twice, or a value that is none of its.
-pub fn command_of(words: &[String]) -> Option<Command>
-    ensures { result ≡ command_of (texts_of words.now) }
+pub fn command_of(alloc: Global, words: &[String]) -> Result<Option<Command>, Memory>
+    ensures { IfOk result (λ command. command ≡ command_of (texts_of words.now)) }
 {
-    let (word, words) = words.split_first()?;
-    command_with(word.as_str(), options_in(words)?)
+    let Some((word, words)) = words.split_first() else {
+        return Ok(None);
+    };
+    match word.as_str() {
+        "run" => Ok(run_command(run_of(alloc, words)?)),
+        "steps" => Ok(steps_command(steps_of(alloc, words)?)),
+        _ => Ok(None),
+    }
 }
