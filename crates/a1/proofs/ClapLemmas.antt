@@ -156,6 +156,12 @@ use_fails given n v is = rw (has_use given n, is) tt
 use_goes : (given : List Use) (n v : Text) → list_any (λ u. bytes_eq u.0 n) given ≡ false → use_fault false (rule_for n) (v ∷ []) (map row_of_use given) ≡ []
 use_goes given n v is = rw (has_use given n, is) refl
 
+-- ---- the reading, once it failed
+
+read_none : (names words : List Text) → fold (read_word names) None words ≡ None
+read_none names [] = refl
+read_none names (word ∷ words) = read_none names words
+
 -- ---- a turn of the walk
 
 module _ (label : Text) (names : List Text) where
@@ -256,10 +262,6 @@ module _ (label : Text) (names : List Text) where
       by (inl (q, e)) = long_turn_fails idle h p word q e (long_fails q.0 q.1 h bad)
       by (inr e) = stray_fails h p word e
 
-  fold_none : (words : List Text) → fold (read_word names) None words ≡ None
-  fold_none [] = refl
-  fold_none (word ∷ words) = fold_none words
-
   abbrev Stands : List Use → Option Text → Held → Type 0
   Stands given None h = (settled_rows c h.pending h.rows ≡ map row_of_use given) × (settle_fault c false h ≡ [])
   Stands given (Some n) h = (h.pending ≡ Some (n, [])) × (h.rows ≡ map row_of_use given) × (is_name names n ≡ true)
@@ -293,7 +295,7 @@ module _ (label : Text) (names : List Text) where
   goes w later r after word rest turn walk reads agrees = rw (turn, walk, reads) agrees
 
   stops : (w : Walk) (r : Option Reading) (word : Text) (rest : List Text) → IsFault (turn_fault s [] w word) → read_word names r word ≡ None → Turned w r word rest
-  stops w r word rest bad reads = rw (reads, fold_none rest) (first_fault (turn_fault s [] w word) (total (walked c [] w word) rest) bad)
+  stops w r word rest bad reads = rw (reads, read_none names rest) (first_fault (turn_fault s [] w word) (total (walked c [] w word) rest) bad)
 
   abbrev Onwards : List Text → ℕ → Type 0
   Onwards rest p = (given : List Use) (waiting : Option Text) (h : Held) → Stands given waiting h → Rest (at (waits waiting) h p) (Some (state given waiting)) rest
@@ -344,7 +346,7 @@ module _ (label : Text) (names : List Text) where
       by : (t : Bool) → list_any (λ u. bytes_eq u.0 n) given ≡ t → Turned (at (option n) h p) (Some (state given (Some n))) word rest
       by true twice = goes (at (option n) h p) (at idle later p) (Some (state given (Some n))) None word rest turn walk
           (rw (no_stray word (inr e), plain_long word e, twice) refl)
-          (rw (fold_none rest) (doomed rest later p forms (rw (by_id names n, stands.2, stands.1) (use_fails given n word twice))))
+          (rw (read_none names rest) (doomed rest later p forms (rw (by_id names n, stands.2, stands.1) (use_fails given n word twice))))
       by false once = goes (at (option n) h p) (at idle later p) (Some (state given (Some n))) (Some (stood (given ++ (n, word) ∷ []))) word rest turn walk
           (rw (no_stray word (inr e), plain_long word e, once) refl)
           (onwards (given ++ (n, word) ∷ []) None later (rw (by_id names n, stands.2, stands.1) (used_once given n word once), rw (by_id names n, stands.2, stands.1) (use_goes given n word once)))
@@ -464,10 +466,6 @@ all_forms [] none = tt
 all_forms (word ∷ words) none =
     let parts = either (is_stray word) (list_any is_stray words) none in
     (form_by word (behind_hyphen word) (option_of word) refl refl parts.0, all_forms words parts.1)
-
-read_none : (names words : List Text) → fold (read_word names) None words ≡ None
-read_none names [] = refl
-read_none names (word ∷ words) = read_none names words
 
 stray_none : (names : List Text) (r : Option Reading) (words : List Text) → list_any is_stray words ≡ true → fold (read_word names) r words ≡ None
 stray_none names r [] some = absurd cc
