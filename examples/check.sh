@@ -1,31 +1,33 @@
 #!/bin/sh
-# Runs the examples on the built program and compares what it answers: each script of this folder with the file of its
-# name that ends in .expected, and the script and answers of docs/REQUESTS.md. Prints what differs, and ends with 1 then.
+# Looks whether the examples are what the gate runs: the script and the answers of docs/REQUESTS.md must be the front of
+# crates/a1/stdin and crates/a1/stdout, and examples/films.script and films.expected the front of those. Where a program is
+# given, runs these and examples/write_skew.steps on it too. Prints what differs, and ends with 1 then.
 # Usage: sh examples/check.sh [PROGRAM]
 cd "$(dirname "$0")/.." || exit 1
-program=${1:-crates/a1/out/a1}
 folder=$(mktemp -d) || exit 1
 trap 'rm -rf "$folder"' EXIT
+status=0
 # The lines of all blocks of this kind in the document.
 blocks() {
     awk -v start="\`\`\`$1" '$0 == "```" { inside = 0 } inside { print } $0 == start { inside = 1 }' docs/REQUESTS.md
 }
-# Runs a command on a script and compares its answers with those expected.
-check() {
-    if ! "$program" "$1" < "$2" > "$folder/answers"; then
-        echo "$2: the program failed"
-        return 1
-    fi
-    diff "$3" "$folder/answers" || { echo "$2: other answers"; return 1; }
+# Whether the first file is the front of the second.
+is_front() {
+    head -n "$(wc -l < "$1")" "$2" | diff "$1" - || { echo "$1 is not the front of $2"; status=1; }
 }
-status=0
+# Runs a command of the program on a script and compares what it answers.
+answers() {
+    "$1" "$2" < "$3" | diff "$4" - || { echo "$3: other answers"; status=1; }
+}
 blocks script > "$folder/script"
-blocks answers > "$folder/expected"
-check run "$folder/script" "$folder/expected" || status=1
-for script in examples/*.script; do
-    check run "$script" "${script%.script}.expected" || status=1
-done
-for events in examples/*.steps; do
-    check steps "$events" "${events%.steps}.expected" || status=1
-done
+blocks answers > "$folder/answers"
+is_front examples/films.script "$folder/script"
+is_front examples/films.expected "$folder/answers"
+is_front "$folder/script" crates/a1/stdin
+is_front "$folder/answers" crates/a1/stdout
+if [ $# = 1 ]; then
+    answers "$1" run examples/films.script examples/films.expected
+    answers "$1" run crates/a1/stdin crates/a1/stdout
+    answers "$1" steps examples/write_skew.steps examples/write_skew.expected
+fi
 exit $status
