@@ -16,6 +16,11 @@ measure() {
     done | awk '{ printf "%.2f processor seconds, %d KiB\n", $1 + $2, $3 }' | sort -n | sed -n 3p | sed "s/^/$1: $bytes bytes, $lines lines, /"
 }
 
+# The same over a table of SQLite, where there is a Python.
+beside() {
+    command -v python3 > /dev/null && python3 "$(dirname "$0")/beside.py" "$folder/script"
+}
+
 # As many lines as fit into 32 MiB, and half of them.
 lines_of() {
     most=$((33554432 / (${#2} + 1)))
@@ -50,10 +55,12 @@ BEGIN {
 for count in 10000 20000 100000 200000; do
     awk -v count="$count" "$puts" > "$folder/script"
     measure "puts of different vertices"
+    beside
 done
 for sets in 0 100; do
     awk -v loads=100 -v sets="$sets" "$puts" > "$folder/script"
     measure "100,000 vertices, and then $sets requests of 1,000 sets each"
+    beside
 done
 
 # Rounds of 35 transactions side by side: each reads an object, locks another, and installs it where what it read still
