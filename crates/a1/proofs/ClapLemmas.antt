@@ -121,10 +121,6 @@ first_fault : (a b : Kinds) → IsFault a → IsFault (or_else a b)
 first_fault [] b h = absurd h
 first_fault (k ∷ ks) b h = tt
 
-next_fault : (a b : Kinds) → IsFault b → IsFault (or_else a b)
-next_fault [] b h = h
-next_fault (k ∷ ks) b h = tt
-
 three : (a b d : Kinds) → or_else (or_else a b) d ≡ or_else a (or_else b d)
 three [] b d = refl
 three (k ∷ ks) b d = refl
