@@ -1,15 +1,16 @@
 #!/bin/sh
-# Looks whether the examples are what the gate runs: the script and the answers of docs/REQUESTS.md must be the front of
-# crates/a1/stdin and crates/a1/stdout, and examples/films.script and films.expected the front of those. Where a program is
-# given, runs these and examples/write_skew.steps on it too. Prints what differs, and ends with 1 then.
+# Looks whether the examples are what the gate runs: the scripts and the answers of docs/QUERIES.md and, behind them, of
+# docs/REQUESTS.md must be the front of crates/a1/stdin and crates/a1/stdout, and examples/films.script and films.expected
+# the front of those. Where a program is given, runs these and examples/write_skew.steps on it too. Prints what differs, and
+# ends with 1 then.
 # Usage: sh examples/check.sh [PROGRAM]
 cd "$(dirname "$0")/.." || exit 1
 folder=$(mktemp -d) || exit 1
 trap 'rm -rf "$folder"' EXIT
 status=0
-# The lines of all blocks of this kind in the document.
+# The lines of all blocks of this kind in the documents.
 blocks() {
-    awk -v start="\`\`\`$1" '$0 == "```" { inside = 0 } inside { print } $0 == start { inside = 1 }' docs/REQUESTS.md
+    awk -v start="\`\`\`$1" '$0 == "```" { inside = 0 } inside { print } $0 == start { inside = 1 }' docs/QUERIES.md docs/REQUESTS.md
 }
 # Whether the first file is the front of the second.
 is_front() {

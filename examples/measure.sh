@@ -1,7 +1,7 @@
 #!/bin/sh
 # Times the built program, and takes its peak memory: on lines that are no request, 16 and 32 MiB of each kind, on puts of
-# different vertices, on requests of 1,000 operations on 100,000 vertices, and on events of transactions by 35 actors. Of five
-# runs the middle one counts. Needs /usr/bin/time (GNU time) and awk.
+# different vertices, on requests of 1,000 operations on 100,000 vertices, on queries and drops, and on events of transactions by
+# 35 actors. Of five runs the middle one counts; what queries and drops take is what a script takes more than without them. Needs /usr/bin/time (GNU time) and awk.
 # Usage: sh examples/measure.sh [PROGRAM]
 program=${1:-crates/a1/out/a1}
 folder=$(mktemp -d) || exit 1
@@ -62,6 +62,52 @@ for sets in 0 100; do
     measure "100,000 vertices, and then $sets requests of 1,000 sets each"
     beside
 done
+
+# Vertices 0 to count - 1 with the edges of a mode, and then as many queries or drops, one a line:
+#   id    no edges; each vertex by its id
+#   hop   edges from vertex 0 to so many others; how many these are
+#   hops  the same, and as many edges from each of those; how many two hops reach
+#   drop  an edge from each vertex to the next; vertices go
+queries='function id(i) { return "f" (i * 7919) % 1000003 }
+function add(op) { printf "%s%s", (n % 1000 ? "," : "1 {\"do\":["), op; if (++n % 1000 == 0) print "]}" }
+function flush() { if (n % 1000) print "]}"; n = 0 }
+function put(i) { return "{\"put\":{\"graph\":\"t/g\",\"type\":\"film\",\"v\":{\"id\":\"" id(i) "\",\"year\":" i "}}}" }
+function end(i) { return "{\"type\":\"film\",\"id\":\"" id(i) "\"}" }
+function edge(i, j) { return "{\"link\":{\"graph\":\"t/g\",\"type\":\"next\",\"from\":" end(i) ",\"to\":" end(j) "}}" }
+function ask(i, rest) { return "1 {\"ask\":{\"_type\":\"film\",\"id\":\"" id(i) "\"" rest "},\"graph\":\"t/g\"}" }
+function hop(rest) { return ",\"_out_edge\":{\"_type\":\"next\",\"_vertex\":{\"_type\":\"film\"" rest "}}" }
+BEGIN {
+    counted = ",\"_select\":[\"_count(*)\"]"
+    print "1 {\"do\":[{\"create_tenant\":\"t\"},{\"create_graph\":\"t/g\"}]}"
+    print "1 {\"do\":[{\"create_vertex_type\":{\"graph\":\"t/g\",\"type\":\"film\",\"attrs\":[{\"name\":\"id\",\"kind\":\"text\"},{\"name\":\"year\",\"kind\":\"int\"}]}},{\"create_edge_type\":{\"graph\":\"t/g\",\"type\":\"next\",\"attrs\":[]}}]}"
+    for (i = 0; i < count; i++) add(put(i))
+    flush()
+    if (mode == "hop" || mode == "hops") for (i = 1; i <= fan; i++) add(edge(0, i))
+    if (mode == "hops") for (i = 1; i <= fan; i++) for (j = 1; j <= fan; j++) add(edge(i, i * fan + j))
+    if (mode == "drop") for (i = 0; i < count; i++) add(edge(i, (i + 1) % count))
+    flush()
+    for (k = 0; k < lines; k++) {
+        if (mode == "id") print ask(k % count, "")
+        if (mode == "hop") print ask(0, hop(counted))
+        if (mode == "hops") print ask(0, hop(hop(counted)))
+        if (mode == "drop") print "1 {\"do\":[{\"drop\":{\"graph\":\"t/g\",\"type\":\"film\",\"id\":\"" id(k * 3 % count) "\"}}]}"
+    }
+}'
+asks() {
+    for lines in 0 "$4"; do
+        awk -v mode="$1" -v count="$2" -v fan="$3" -v lines="$lines" "$queries" > "$folder/script"
+        measure "$2 vertices, $5, and then $lines lines"
+        beside
+    done
+}
+asks id 50000 0 100000 "each asked for by its id"
+asks id 100000 0 100000 "each asked for by its id"
+asks hop 100000 500 1000 "one hop over 500 edges"
+asks hop 100000 1000 1000 "one hop over 1,000 edges"
+asks hops 100000 15 1000 "two hops over 15 times 15 edges"
+asks hops 100000 30 1000 "two hops over 30 times 30 edges"
+asks drop 10000 0 3000 "with an edge to the next each, of which some go"
+asks drop 100000 0 3000 "with an edge to the next each, of which some go"
 
 # Rounds of 35 transactions side by side: each reads an object, locks another, and installs it where what it read still
 # stands. Each round collects on one node.

@@ -2,7 +2,8 @@
 ghost use Rattle.std.specs.Prelude.{◌≡◌, ◌≤◌, List, [], ◌∷◌, Ok, Some, length, IfOk, IfErr, IfSome, None};
 ghost use Rattle.a1_base.specs.declared.limits.TheConstants.{SCRIPT_LIMIT};
 ghost use Rattle.type_schema.specs.Graph.{opening};
-ghost use Rattle.answer_text.specs.Transcript.{text_of};
+ghost use Rattle.std.specs.List.{All};
+ghost use Rattle.answer_text.specs.Transcript.{text_of, NamesBefore};
 ghost use Rattle.answer_text.specs.Legal.{IsLegal};
 ghost use Rattle.run_text.specs.Script.{script_of, request_count, asked_in};
 ghost use Rattle.a1.specs.Outside.{side, outside, IsReadWhole};
@@ -32,6 +33,7 @@ fn script_in<R: Source>(alloc: Global, source: &mut R) -> Result<Script, InputFa
     ensures ok { IfOk result (λ script. IfSome (R.left source.old) (λ bytes. script_of bytes ≡ Ok script)) }
     ensures few { IfOk result (λ script. request_count script ≤ SCRIPT_LIMIT) }
     ensures alone { IfOk result (λ script. length script ≤ 1) }
+    ensures named { IfOk result (λ script. All (λ t. NamesBefore t.0 t.1) script) }
     ensures end { IfOk result (λ script. IsReadWhole (side R.left R.faults source.old source.new)) }
     ensures fault { IfErr result (IsInputFault run_rules.IsMalformed (side R.left R.faults source.old source.new)) }
 {
@@ -45,7 +47,8 @@ fn script_in<R: Source>(alloc: Global, source: &mut R) -> Result<Script, InputFa
 
 // Serves a session from the graph that a database begins with.
 fn serve_opening(alloc: Global, number: u32, requests: Vec<Bin>) -> Result<Transcript, Memory>
-    requires { length requests.items ≤ SCRIPT_LIMIT }
+    requires few { length requests.items ≤ SCRIPT_LIMIT }
+    requires named { NamesBefore number requests.items }
     ensures of { IfOk result (λ t. asked_in (t ∷ []) ≡ (number, requests.items) ∷ []) }
     ensures legal { IfOk result (λ t. IsLegal opening OPENING_STAMP (t ∷ []) []) }
 {
@@ -58,6 +61,7 @@ fn serve_opening(alloc: Global, number: u32, requests: Vec<Bin>) -> Result<Trans
 fn serve_script(alloc: Global, script: Script) -> Result<Items<Transcript>, Memory>
     requires few { request_count script ≤ SCRIPT_LIMIT }
     requires alone { length script ≤ 1 }
+    requires named { All (λ t. NamesBefore t.0 t.1) script }
     ensures { IfOk result (AreServed script) }
 {
     let mut transcripts = Items::new(alloc);
@@ -73,6 +77,7 @@ fn serve_script(alloc: Global, script: Script) -> Result<Items<Transcript>, Memo
 fn run_script(alloc: Global, script: Script) -> Result<Served, Memory>
     requires few { request_count script ≤ SCRIPT_LIMIT }
     requires alone { length script ≤ 1 }
+    requires named { All (λ t. NamesBefore t.0 t.1) script }
     ensures served { IfOk result (λ s. AreServed script s.run.sessions) }
     ensures text { IfOk result (λ s. s.text ≡ text_of s.run.sessions) }
     ensures base { IfOk result (λ s. s.run.base ≡ OPENING_STAMP) }

@@ -20,6 +20,11 @@ const PUT_ANN: &str =
 const PUT_BOB: &str =
     "1 {\"do\":[{\"put\":{\"graph\":\"sys/names\",\"type\":\"name\",\"v\":{\"id\":\"bob\"}}}]}\n";
 
+const AFTER_FIRST: &str = "1 {\"after\":[1,1]}\n";
+
+const COUNT: &str =
+    "1 {\"ask\":{\"_type\":\"name\",\"_select\":[\"_count(*)\"]},\"graph\":\"sys/names\"}\n";
+
 const ASK_ANN: &str = "1 {\"ask\":{\"_type\":\"name\",\"id\":\"ann\"},\"graph\":\"sys/names\"}\n";
 
 // A call of the program, and what it must answer. It has the pieces of the script, and which read and which write fail,
@@ -51,6 +56,10 @@ const SERVED: Scripts = &[
     (&[ASK_ANN], "1 {\"at\":1,\"rows\":[]}\n"),
     (&["1 hello\n"], "1 {\"bad\":\"not_json\"}\n"),
     (
+        &[PUT_ANN, AFTER_FIRST, COUNT],
+        "1 {\"ok\":2}\n1 {\"told\":1}\n1 {\"at\":2,\"count\":1}\n",
+    ),
+    (
         &["\n1 \n\n1 {}"],
         "1 {\"bad\":\"not_json\"}\n1 {\"bad\":\"shape\"}\n",
     ),
@@ -58,6 +67,9 @@ const SERVED: Scripts = &[
 
 const MALFORMED: Scripts = &[
     (&["2 {}\n"], "script 1\n"),
+    (&[AFTER_FIRST], "script 1\n"),
+    (&["\n", PUT_ANN, "1 {\"after\":[1,2]}\n"], "script 3\n"),
+    (&[PUT_ANN, "1 {\"after\":[2,1]}\n"], "script 2\n"),
     (&["33 {}\n"], "script 1\n"),
     (&["\n", PUT_ANN, "\n1\n"], "script 4\n"),
     (&["01 {}\n"], "script 1\n"),

@@ -37,6 +37,22 @@ list_at (Json-F.Members ms) = None
 abbrev pub as_list : Json → Option (List Json)
 as_list json = list_at (out-Json json)
 
+abbrev pub fields_or_none : Option Fields → Fields
+fields_or_none None = []
+fields_or_none (Some fields) = fields
+
+-- its members, or none where it is no object
+abbrev pub fields_in : Json → Fields
+fields_in json = fields_or_none (as_members json)
+
+abbrev pub items_or_none : Option (List Json) → List Json
+items_or_none None = []
+items_or_none (Some items) = items
+
+-- its items, or none where it is no list
+abbrev pub items_in : Json → List Json
+items_in json = items_or_none (as_list json)
+
 abbrev pub text_at : Json-F Json → Option (List ℕ)
 text_at Json-F.Null = None
 text_at (Json-F.Bool b) = None

@@ -1,6 +1,6 @@
 //! Looking into a tree.
 ghost use Rattle.std.specs.Prelude.{◌≡◌, option_map};
-ghost use Rattle.a1_json.specs.Fields.{member_of, as_members, as_list, as_text, as_int, as_flag};
+ghost use Rattle.a1_json.specs.Fields.{member_of, as_members, as_list, fields_in, items_in, as_text, as_int, as_flag};
 
 use crate::Json;
 use a1_base::Txt;
@@ -15,6 +15,26 @@ pub fn member<'a>(members: &'a [(Txt, Json)], name: &str) -> Option<&'a Json>
         }
     }
     None
+}
+
+/// The members, or none where it is no object.
+pub fn fields_in(json: &Json) -> &[(Txt, Json)]
+    ensures { result.now ≡ fields_in json.now }
+{
+    match json.as_members() {
+        Some(members) => members,
+        None => &[],
+    }
+}
+
+/// The items, or none where it is no list.
+pub fn items_in(json: &Json) -> &[Json]
+    ensures { result.now ≡ items_in json.now }
+{
+    match json.as_list() {
+        Some(items) => items,
+        None => &[],
+    }
 }
 
 impl Json {

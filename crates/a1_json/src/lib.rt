@@ -11,7 +11,7 @@ mod tests;
 mod tree;
 mod writing;
 
-pub use fields::member;
+pub use fields::{fields_in, items_in, member};
 pub use reading::read;
 pub use tree::{Json, JsonFault};
 pub use writing::{put_member, write};

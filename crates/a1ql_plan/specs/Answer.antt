@@ -1,22 +1,33 @@
 -- What a plan answers over a graph: filters of the vertex list, in which names are in the order of their keys.
-use Rattle.std.specs.Prelude.{ℕ, List, [], ◌∷◌, length, map, filter, Bool, true, false, not, ◌&&◌, Option, Some, None, slice_get}
+use Rattle.std.specs.Prelude.{ℕ, List, [], ◌∷◌, length, map, filter, Bool, true, false, not, ◌&&◌, Option, Some, None, slice_get, nat_lt, Result, Ok}
 use Rattle.std.specs.List.{list_any, list_all}
 use Rattle.std.specs.Ordering.{is_eq, is_lt, is_gt}
 use Rattle.std.specs.declared.cmp.Ordering.{Ordering}
+use Rattle.a1_base.specs.declared.limits.TheConstants.{WORKING_SET_LIMIT}
 use Rattle.a1_value.specs.declared.value.Value.{Value}
 use Rattle.a1_value.specs.Order.{value_order}
 use Rattle.type_schema.specs.declared.names.TypeName.{TypeName}
 use Rattle.type_schema.specs.declared.names.VertexName.{VertexName}
 use Rattle.type_schema.specs.declared.names.EdgeName.{EdgeName}
+use Rattle.type_schema.specs.declared.refusal.Refusal.{Refusal}
+use Rattle.type_schema.specs.declared.refusal.Word.TheVariants as word
+use Rattle.type_schema.specs.Refusals.{refused, unless, passing}
 use Rattle.type_schema.specs.Schemas.{Record}
-use Rattle.type_schema.specs.Graph.{Graph, type_order, vertex_order, source, target, vertex_at}
+use Rattle.type_schema.specs.Graph.{Graph, type_order, vertex_order, near, far, vertex_at}
+use Rattle.type_schema.specs.Lookups.{graph_number}
+use Rattle.a1ql_reader.specs.declared.ask.Ask.{Ask}
+use Rattle.a1ql_reader.specs.declared.ask.Row.{Row}
+use Rattle.a1ql_reader.specs.declared.ask.Answer.{Answer}
+use Rattle.a1ql_reader.specs.declared.ask.Answer.TheVariants.{Rows, Count}
 use Rattle.a1ql_reader.specs.declared.patterns.Comparison.{Comparison}
 use Rattle.a1ql_reader.specs.declared.patterns.Comparison.TheVariants as compared
 use Rattle.a1ql_plan.specs.declared.plans.Predicate.{Predicate}
+use Rattle.a1ql_plan.specs.declared.plans.Column.{Column}
 use Rattle.a1ql_plan.specs.declared.plans.Projection.{Projection}
 use Rattle.a1ql_plan.specs.declared.plans.Projection.TheVariants as select
 use Rattle.a1ql_plan.specs.declared.plans.Plan.{Plan, Plan-F, fold-Plan}
-use Rattle.a1ql_plan.specs.declared.plans.Expand.{Expand-F}
+use Rattle.a1ql_plan.specs.declared.plans.Expand.{Expand, Expand-F, fold-Expand}
+use Rattle.a1ql_plan.specs.Plan.{plan_of}
 
 -- ---- comparisons
 
@@ -40,15 +51,6 @@ abbrev pub all_hold : List Predicate → Record → Bool
 all_hold tests values = list_all (holds values) tests
 
 -- ---- edges at a vertex
-
--- the end of an edge at the vertex that it leads from (true) or to, and the other end
-abbrev pub near : Bool → EdgeName → VertexName
-near true e = source e
-near false e = target e
-
-abbrev pub far : Bool → EdgeName → VertexName
-far true e = target e
-far false e = source e
 
 abbrev pub is_type : TypeName → ℕ → List ℕ → Bool
 is_type kind graph name = is_eq (type_order kind (record { graph = graph; name = name }))
@@ -139,6 +141,9 @@ plan_says plan = record {
 abbrev pub says : Plan → PlanSays
 says = fold-Plan ExpandSays PlanSays expand_says plan_says
 
+abbrev pub hop_says : Expand → ExpandSays
+hop_says = fold-Expand ExpandSays PlanSays expand_says plan_says
+
 -- ---- answers
 
 -- the vertex meets the plan's pattern
@@ -157,29 +162,33 @@ abbrev pub last_of : List Vertex → List (List Vertex) → List Vertex
 last_of set [] = set
 last_of set (next ∷ sets) = last_of next sets
 
-abbrev pub value_before : Option Value → Record → Record
-value_before None values = values
-value_before (Some v) values = v ∷ values
+abbrev pub member_before : List ℕ → Option Value → List (List ℕ × Value) → List (List ℕ × Value)
+member_before name None members = members
+member_before name (Some v) members = (name, v) ∷ members
 
--- the values at these places
-abbrev pub values_at : List ℕ → Record → Record
-values_at [] values = []
-values_at (place ∷ places) values = value_before (slice_get values place) (values_at places values)
+-- the values of these attributes
+abbrev pub members_at : List Column → Record → List (List ℕ × Value)
+members_at [] values = []
+members_at (c ∷ columns) values = member_before c.name (slice_get values c.place) (members_at columns values)
 
-abbrev pub shown_of : Projection → Record → Record
-shown_of select.All values = values
-shown_of select.Count values = []
-shown_of (select.Places places) values = values_at places values
+abbrev pub row_of : List Column → Record → Row
+row_of columns values = record { members = members_at columns values }
 
 -- how many vertices, or of each what is selected, in the order of keys
-pub data Answer : Type 0 where
-  Number : (n : ℕ) → Answer
-  Rows : (rows : List Record) → Answer
-
 abbrev pub answered : Projection → List Vertex → Answer
-answered select.Count set = Number (length set)
-answered select set = Rows (map (λ v. shown_of select v.1) set)
+answered select.Count set = Count (length set)
+answered (select.Columns columns) set = Rows (map (λ v. row_of columns v.1) set)
 
--- what is answered, where no set of the chain is too large
-unfoldable pub answer_of : Graph → Plan → Answer
-answer_of g plan = answered (says plan).select (last_of (first_set g plan) ((says plan).sets g (first_set g plan)))
+abbrev pub is_over : List Vertex → Bool
+is_over set = nat_lt WORKING_SET_LIMIT (length set)
+
+-- what a plan is answered, where no set of the chain is too large
+unfoldable pub answer_of : Graph → Plan → Result Answer Refusal
+answer_of g plan =
+    unless (list_any is_over (sets_of g plan)) (refused word.WorkingSet)
+    (Ok (answered (says plan).select (last_of (first_set g plan) ((says plan).sets g (first_set g plan)))))
+
+-- what a query is answered, or the first refusal
+unfoldable pub answer : Graph → Ask → Result Answer Refusal
+answer g ask =
+    passing (graph_number g ask.graph) (λ number. passing (plan_of g.types number ask.pattern) (answer_of g))

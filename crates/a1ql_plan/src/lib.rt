@@ -8,13 +8,11 @@ mod depth;
 mod plans;
 mod predicates;
 mod projecting;
-mod refusal;
 mod resolving;
 #[cfg(test)]
 mod tests;
 mod types;
 
-pub use plans::{Expand, Plan, Predicate, Projection};
-pub use refusal::{PlanFault, PlanRefusal};
+pub use plans::{Column, Expand, Plan, Predicate, Projection};
 pub use resolving::plan;
 pub use types::Types;

@@ -1,4 +1,5 @@
 //! Plans.
+use a1_base::Txt;
 use a1_value::Value;
 use a1ql_reader::Comparison;
 use sqlite_items::{Boxed, Items};
@@ -15,15 +16,21 @@ pub struct Predicate {
     pub value: Value,
 }
 
+/// An attribute that is answered.
+#[derive(Debug, Drop)]
+pub struct Column {
+    pub name: Txt,
+    /// Its place among those of its type, from 0.
+    pub place: usize,
+}
+
 /// What is answered of a vertex.
 #[derive(Debug, Drop)]
 pub enum Projection {
-    /// Its whole record.
-    All,
     /// Nothing of it: the vertices are counted.
     Count,
-    /// The values at these places of its record, in this order.
-    Places(Items<usize>),
+    /// The values of these attributes, in this order.
+    Columns(Items<Column>),
 }
 
 /// A vertex pattern whose names are resolved.

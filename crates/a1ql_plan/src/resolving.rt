@@ -1,17 +1,18 @@
 //! From a pattern to its plan.
 ghost use Rattle.std.specs.Prelude.{◌≡◌, map, option_map};
-ghost use Rattle.a1ql_plan.specs.Plan.{all_of, next_of, expand_of, vertex_of, plan_of, Resolves};
+ghost use Rattle.type_schema.specs.Refusals.{Gives};
+ghost use Rattle.a1ql_plan.specs.Plan.{all_of, next_of, expand_of, vertex_of, plan_of};
 
 use crate::depth::is_within;
 use crate::predicates::predicates;
 use crate::projecting::projection;
 use crate::types::{edge_schema, vertex_schema};
-use crate::{Expand, Plan, PlanFault, PlanRefusal, Types};
+use crate::{Expand, Plan, Types};
 use a1_base::PATH_LIMIT;
 use a1ql_reader::{Hop, VertexPattern};
 use sqlite_items::{Boxed, Items};
 use std::alloc::Global;
-use type_schema::TypeName;
+use type_schema::{GraphFault, TypeName, Word, refuse};
 
 #[cycle(resolving)]
 #[tactic(auto, unfolding(crate::specs::Plan::vertex_step, type_schema::specs::Refusals::need, type_schema::specs::Refusals::passing), using(crate::proofs::PlanLemmas::at_vertex))]
@@ -20,13 +21,13 @@ fn vertex<T: Types>(
     types: &T,
     graph: u64,
     pattern: &VertexPattern,
-) -> Result<Plan, PlanFault>
-    ensures { Resolves result (vertex_of (T.list types.now) graph pattern.now) }
+) -> Result<Plan, GraphFault>
+    ensures { Gives result (vertex_of (T.list types.now) graph pattern.now) }
 {
     let name = pattern.kind.copy(alloc)?;
     let kind = TypeName { graph, name };
     let Some(schema) = vertex_schema(types, &kind) else {
-        return Err(PlanFault::Refused(PlanRefusal::NoType));
+        return refuse(Word::NoType);
     };
     let tests = predicates(alloc, &schema.attrs, pattern.tests.as_slice())?;
     let matches = matches(alloc, types, graph, pattern.matches.as_slice())?;
@@ -43,13 +44,13 @@ fn vertex<T: Types>(
 
 #[cycle(resolving)]
 #[tactic(auto, unfolding(crate::specs::Plan::expand_step, type_schema::specs::Refusals::need, type_schema::specs::Refusals::passing), using(crate::proofs::PlanLemmas::at_expand))]
-fn expand<T: Types>(alloc: Global, types: &T, graph: u64, hop: &Hop) -> Result<Expand, PlanFault>
-    ensures { Resolves result (expand_of (T.list types.now) graph hop.now) }
+fn expand<T: Types>(alloc: Global, types: &T, graph: u64, hop: &Hop) -> Result<Expand, GraphFault>
+    ensures { Gives result (expand_of (T.list types.now) graph hop.now) }
 {
     let name = hop.kind.copy(alloc)?;
     let kind = TypeName { graph, name };
     let Some(schema) = edge_schema(types, &kind) else {
-        return Err(PlanFault::Refused(PlanRefusal::NoType));
+        return refuse(Word::NoType);
     };
     let out = hop.out;
     let tests = predicates(alloc, &schema.attrs, hop.tests.as_slice())?;
@@ -69,8 +70,8 @@ fn next<T: Types>(
     types: &T,
     graph: u64,
     hop: &Option<Boxed<Hop>>,
-) -> Result<Option<Boxed<Expand>>, PlanFault>
-    ensures { Resolves result (next_of (option_map (expand_of (T.list types.now) graph) hop.now)) }
+) -> Result<Option<Boxed<Expand>>, GraphFault>
+    ensures { Gives result (next_of (option_map (expand_of (T.list types.now) graph) hop.now)) }
 {
     match hop {
         Some(hop) => {
@@ -88,8 +89,8 @@ fn matches<T: Types>(
     types: &T,
     graph: u64,
     hops: &[Hop],
-) -> Result<Items<Expand>, PlanFault>
-    ensures { Resolves result (all_of (map (expand_of (T.list types.now) graph) hops.now)) }
+) -> Result<Items<Expand>, GraphFault>
+    ensures { Gives result (all_of (map (expand_of (T.list types.now) graph) hops.now)) }
 {
     let mut expands = Items::new(alloc);
     for hop in hops {
@@ -107,11 +108,11 @@ pub fn plan<T: Types>(
     types: &T,
     graph: u64,
     pattern: &VertexPattern,
-) -> Result<Plan, PlanFault>
-    ensures { Resolves result (plan_of (T.list types.now) graph pattern.now) }
+) -> Result<Plan, GraphFault>
+    ensures { Gives result (plan_of (T.list types.now) graph pattern.now) }
 {
     if !is_within(pattern, PATH_LIMIT) {
-        return Err(PlanFault::Refused(PlanRefusal::Deep));
+        return refuse(Word::Deep);
     }
     vertex(alloc, types, graph, pattern)
 }

@@ -1,11 +1,11 @@
-use crate::{Plan, PlanFault, PlanRefusal, Projection, Types, plan};
+use crate::{Plan, Projection, Types, plan};
 use a1_base::Txt;
 use a1_value::Value;
 use a1ql_reader::{Comparison, VertexPattern, pattern};
 use std::alloc::{AllocError, Global};
 use std::collections::BTreeMap;
 use std::test::Fail;
-use type_schema::{Attr, Kind, Schema, TypeName, TypeSchema};
+use type_schema::{Attr, GraphFault, Kind, Refusal, Schema, TypeName, TypeSchema, Word};
 
 // ---- the types of the film graph, which has the number 2
 
@@ -64,7 +64,7 @@ fn read(alloc: Global, text: &str) -> Result<VertexPattern, Fail> {
     Ok(pattern(alloc, &json)?)
 }
 
-fn planned(alloc: Global, text: &str) -> Result<Result<Plan, PlanFault>, Fail> {
+fn planned(alloc: Global, text: &str) -> Result<Result<Plan, GraphFault>, Fail> {
     let films = film_types(alloc)?;
     let root = read(alloc, text)?;
     Ok(plan(alloc, &films, 2, &root))
@@ -73,12 +73,13 @@ fn planned(alloc: Global, text: &str) -> Result<Result<Plan, PlanFault>, Fail> {
 // ---- refusals
 
 // The word of the refusal, and for `kind` the attribute.
-fn word(alloc: Global, refusal: &PlanRefusal) -> Result<String, AllocError> {
-    match refusal {
-        PlanRefusal::Deep => String::from_str(alloc, "deep"),
-        PlanRefusal::NoType => String::from_str(alloc, "no_type"),
-        PlanRefusal::NoAttr => String::from_str(alloc, "no_attr"),
-        PlanRefusal::Kind(attr) => format!(in alloc; "kind of {}", attr.as_text()),
+fn word(alloc: Global, refusal: &Refusal) -> Result<String, AllocError> {
+    match (refusal.word, &refusal.attr) {
+        (Word::Deep, None) => String::from_str(alloc, "deep"),
+        (Word::NoType, None) => String::from_str(alloc, "no_type"),
+        (Word::NoAttr, None) => String::from_str(alloc, "no_attr"),
+        (Word::Kind, Some(attr)) => format!(in alloc; "kind of {}", attr.as_text()),
+        _ => String::from_str(alloc, "another"),
     }
 }
 
@@ -86,8 +87,8 @@ fn said(alloc: Global, text: &str) -> Result<String, Fail> {
     match planned(alloc, text)? {
         Ok(_plan) => Ok(String::from_str(alloc, "planned")?),
         Err(fault) => match fault {
-            PlanFault::Refused(refusal) => Ok(word(alloc, &refusal)?),
-            PlanFault::Memory => Ok(String::from_str(alloc, "memory")?),
+            GraphFault::Refused(refusal) => Ok(word(alloc, &refusal)?),
+            GraphFault::Memory => Ok(String::from_str(alloc, "memory")?),
         },
     }
 }
@@ -199,21 +200,49 @@ fn counts_edges_of_one_path(rt: HostRuntime) -> Result<(), Fail> {
 
 // ---- plans
 
+// The names and places of what is selected.
+fn columns(alloc: Global, select: &Projection) -> Result<String, AllocError> {
+    match select {
+        Projection::Count => String::from_str(alloc, "count"),
+        Projection::Columns(columns) => {
+            let mut text = String::new(alloc);
+            for column in columns.as_slice() {
+                let (name, place) = (column.name.as_text(), column.place);
+                text = format!(in alloc; "{text} {name} {place}")?;
+            }
+            Ok(text)
+        }
+    }
+}
+
 #[test]
 fn finds_places(rt: HostRuntime) -> Result<(), Fail> {
     let text =
-        r#"{"_type":"actor","_out_edge":{"_type":"acts","fee":{"_lt":9},"_vertex":{"_type":"film","_select":["year","id"]}}}"#;
+        r#"{"_type":"actor","_out_edge":{"_type":"acts","fee":{"_lt":9},"_vertex":{"_type":"film"}}}"#;
     let root = planned(rt.alloc(), text)??;
     assert_eq!(rt; root.kind.graph, 2);
     assert_eq!(rt; root.kind.name.as_text(), "actor");
-    assert!(rt; matches!(root.select, Projection::All));
     let hop = root.hop.as_ref().ok_or("no hop")?.get();
     assert!(rt; hop.out);
     let test = hop.tests.get(0).ok_or("no test")?;
     assert_eq!(rt; test.place, 1);
     assert!(rt; test.op == Comparison::Lt && matches!(test.value, Value::Int(9)));
-    assert!(rt;
-        matches!(&hop.to.get().select, Projection::Places(places) if places.as_slice() == [1, 0].as_slice())
-    );
+    Ok(())
+}
+
+#[test]
+fn selects_columns(rt: HostRuntime) -> Result<(), Fail> {
+    for (text, selected) in [
+        (r#"{"_type":"film"}"#, " id 0 year 1 poster 2"),
+        (
+            r#"{"_type":"film","_select":["year","id"]}"#,
+            " year 1 id 0",
+        ),
+        (r#"{"_type":"film","_select":["_count(*)"]}"#, "count"),
+    ] {
+        let root = planned(rt.alloc(), text)??;
+        let selected_by = columns(rt.alloc(), &root.select)?;
+        assert_eq!(rt; selected_by.as_str(), selected, "at {text}");
+    }
     Ok(())
 }

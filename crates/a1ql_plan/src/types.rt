@@ -4,7 +4,7 @@ ghost use Rattle.a1_base.specs.Maps.{at};
 ghost use Rattle.type_schema.specs.declared.names.TypeName as names;
 ghost use Rattle.type_schema.specs.declared.rows.TypeSchema as rows;
 ghost use Rattle.type_schema.specs.Graph.{type_order};
-ghost use Rattle.a1ql_plan.specs.Plan.{vertex_schema, edge_schema};
+ghost use Rattle.type_schema.specs.Lookups.{of_vertices, of_edges};
 
 use type_schema::{Schema, TypeName, TypeSchema};
 
@@ -20,7 +20,7 @@ pub trait Types {
 
 /// The schema of the type of vertices of this name.
 pub fn vertex_schema<'a, T: Types>(types: &'a T, name: &TypeName) -> Option<&'a Schema>
-    ensures { option_map (λ s. s.now) result ≡ vertex_schema (at type_order name.now (T.list types.now)) }
+    ensures { option_map (λ s. s.now) result ≡ of_vertices (at type_order name.now (T.list types.now)) }
 {
     match types.schema(name) {
         Some(TypeSchema::OfVertices(schema)) => Some(schema),
@@ -30,7 +30,7 @@ pub fn vertex_schema<'a, T: Types>(types: &'a T, name: &TypeName) -> Option<&'a 
 
 /// The schema of the type of edges of this name.
 pub fn edge_schema<'a, T: Types>(types: &'a T, name: &TypeName) -> Option<&'a Schema>
-    ensures { option_map (λ s. s.now) result ≡ edge_schema (at type_order name.now (T.list types.now)) }
+    ensures { option_map (λ s. s.now) result ≡ of_edges (at type_order name.now (T.list types.now)) }
 {
     match types.schema(name) {
         Some(TypeSchema::OfEdges(schema)) => Some(schema),

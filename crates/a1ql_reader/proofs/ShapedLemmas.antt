@@ -8,14 +8,14 @@ use Rattle.std.proofs.lemmas.Slice.Eq.{bytes_eq-Decides}
 use Rattle.a1_json.specs.declared.tree.Json.{Json, map-Json, roll-Json, the_lemmas}
 use Rattle.a1_json.specs.declared.tree.Json.TheOpen.{Json-F}
 use Rattle.a1_json.specs.declared.tree.Json.TheFolds.{ind-Json}
-use Rattle.a1_json.specs.Fields.{Fields, member_of, as_text}
+use Rattle.a1_json.specs.Fields.{Fields, fields_in, member_of, as_text}
 use Rattle.type_schema.specs.Refusals.{need, passing, unless}
 use Rattle.a1ql_reader.specs.declared.places.Place.{Place}
 use Rattle.a1ql_reader.specs.declared.places.Place.TheVariants as at
 use Rattle.a1ql_reader.specs.declared.patterns.Hop.{Hop}
 use Rattle.a1ql_reader.specs.Places.{direction, place_of}
 use Rattle.a1ql_reader.specs.Walk.{Parts}
-use Rattle.a1ql_reader.specs.Shapes.{Fits, fits, fits_step, fields_in, has, member_fits, members_fit, is_one, is_vertex, is_edge}
+use Rattle.a1ql_reader.specs.Shapes.{Fits, fits, fits_step, has, member_fits, members_fit, is_one, is_vertex, is_edge}
 use Rattle.a1ql_reader.specs.Pattern.{PatternWord, Shape, Says, says, says_step, kind_in, matches_in, hop_or, hop_in, end_in, vertex_of, edge_of, entry_of, hops_of, pattern_of, PatternLaw}
 use Rattle.a1ql_reader.proofs.WalkLemmas.{walk_roll}
 

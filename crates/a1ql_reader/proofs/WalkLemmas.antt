@@ -5,7 +5,7 @@ use Rattle.a1_json.specs.declared.tree.Json.TheOpen.{Json-F}
 use Rattle.a1_json.specs.declared.tree.Json.TheVariants as json
 use Rattle.a1_json.specs.declared.tree.Json.TheFolds.{fold-roll-Json, ind-Json}
 use Rattle.a1_json.specs.Fields.{Fields}
-use Rattle.a1ql_reader.specs.Shapes.{items_in, fields_in}
+use Rattle.a1_json.specs.Fields.{items_in, fields_in}
 use Rattle.a1ql_reader.specs.Walk.{level_of, walk_step, walk}
 
 module _ {A : Type 0} (step : Json → Json-F A → A) where

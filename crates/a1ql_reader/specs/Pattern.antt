@@ -3,7 +3,7 @@ use Rattle.std.specs.Prelude.{◌≡◌, ℕ, List, [], ◌∷◌, Bool, not, Op
 use Rattle.std.specs.Str.{bytes_eq}
 use Rattle.a1_json.specs.declared.tree.Json.{Json}
 use Rattle.a1_json.specs.declared.tree.Json.TheOpen.{Json-F}
-use Rattle.a1_json.specs.Fields.{Fields, member_of, as_text}
+use Rattle.a1_json.specs.Fields.{Fields, fields_in, member_of, as_text}
 use Rattle.type_schema.specs.Refusals.{need, passing, unless}
 use Rattle.a1ql_reader.specs.declared.patterns.VertexPattern.{VertexPattern, roll-VertexPattern}
 use Rattle.a1ql_reader.specs.declared.patterns.Hop.{Hop, roll-Hop}
@@ -11,7 +11,7 @@ use Rattle.a1ql_reader.specs.declared.patterns.PatternFault.{PatternFault}
 use Rattle.a1ql_reader.specs.declared.patterns.PatternFault.TheVariants as fault
 use Rattle.a1ql_reader.specs.Places.{direction}
 use Rattle.a1ql_reader.specs.Walk.{Parts, walk}
-use Rattle.a1ql_reader.specs.Shapes.{fields_in, has_shape}
+use Rattle.a1ql_reader.specs.Shapes.{has_shape}
 use Rattle.a1ql_reader.specs.Names.{has_names}
 use Rattle.a1ql_reader.specs.Values.{tests_in, select_in}
 

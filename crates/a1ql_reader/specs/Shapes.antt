@@ -4,7 +4,7 @@ use Rattle.std.specs.List.{list_all, list_any}
 use Rattle.std.specs.Str.{bytes_eq}
 use Rattle.a1_json.specs.declared.tree.Json.{Json}
 use Rattle.a1_json.specs.declared.tree.Json.TheOpen.{Json-F}
-use Rattle.a1_json.specs.Fields.{Fields, as_members, as_list, as_text}
+use Rattle.a1_json.specs.Fields.{Fields, fields_in, items_in, as_text}
 use Rattle.a1ql_reader.specs.declared.places.Place.{Place}
 use Rattle.a1ql_reader.specs.declared.places.Place.TheVariants as at
 use Rattle.a1ql_reader.specs.declared.places.TheConstants.{SELECT_LIMIT}
@@ -12,14 +12,6 @@ use Rattle.a1ql_reader.specs.Places.{place_of}
 use Rattle.a1ql_reader.specs.Walk.{Parts, walk}
 
 -- ---- a list of different texts
-
-abbrev pub items_or_none : Option (List Json) → List Json
-items_or_none None = []
-items_or_none (Some items) = items
-
--- its items, or none where it is no list
-abbrev pub items_in : Json → List Json
-items_in json = items_or_none (as_list json)
 
 abbrev pub same_text : Option (List ℕ) → Option (List ℕ) → Bool
 same_text (Some one) (Some two) = bytes_eq one two
@@ -40,14 +32,6 @@ are_selected js =
     not (is_empty js) && (nat_le (length js) SELECT_LIMIT && (list_all (λ j. is_some (as_text j)) js && differ js))
 
 -- ---- which members are there
-
-abbrev pub fields_or_none : Option Fields → Fields
-fields_or_none None = []
-fields_or_none (Some fields) = fields
-
--- its members, or none where it is no object
-abbrev pub fields_in : Json → Fields
-fields_in json = fields_or_none (as_members json)
 
 abbrev pub has : List ℕ → Fields → Bool
 has name fields = list_any (λ m. bytes_eq m.0 name) fields

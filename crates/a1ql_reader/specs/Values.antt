@@ -2,7 +2,7 @@
 use Rattle.std.specs.Prelude.{ℕ, ℤ, List, [], ◌∷◌, ◌++◌, Bool, false, Option, Some, None, option_map, if◌then◌else◌, codes}
 use Rattle.std.specs.Str.{bytes_eq}
 use Rattle.a1_json.specs.declared.tree.Json.{Json}
-use Rattle.a1_json.specs.Fields.{Fields, as_text, as_int}
+use Rattle.a1_json.specs.Fields.{Fields, fields_in, items_in, as_text, as_int}
 use Rattle.a1_value.specs.declared.given.Given.{Given}
 use Rattle.a1_value.specs.declared.given.Given.TheVariants as given
 use Rattle.a1ql_reader.specs.declared.patterns.Comparison.{Comparison}
@@ -11,7 +11,6 @@ use Rattle.a1ql_reader.specs.declared.patterns.Test.{Test}
 use Rattle.a1ql_reader.specs.declared.patterns.Select.{Select}
 use Rattle.a1ql_reader.specs.declared.patterns.Select.TheVariants.{All, Count, Names}
 use Rattle.a1ql_reader.specs.Places.{comparison_named, is_reserved}
-use Rattle.a1ql_reader.specs.Shapes.{fields_in, items_in}
 
 -- ---- comparisons
 

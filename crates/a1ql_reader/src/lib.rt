@@ -4,6 +4,7 @@
 //! a type or an attribute is there, and what a pattern finds, is said above it.
 #![tactic(auto)]
 
+mod ask;
 mod laws;
 mod naming;
 mod patterns;
@@ -15,6 +16,8 @@ mod shapes;
 mod tests;
 mod values;
 
+pub use ask::{Answer, Ask, Row};
 pub use laws::patterns_of_shapes;
 pub use patterns::{Comparison, Hop, PatternFault, Select, Test, VertexPattern};
 pub use reading::pattern;
+pub use values::given_of;

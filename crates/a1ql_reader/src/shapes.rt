@@ -4,7 +4,7 @@ ghost use Rattle.std.specs.List.{list_all, list_any};
 ghost use Rattle.a1_json.specs.Fields.{as_text};
 ghost use Rattle.a1ql_reader.specs.declared.places.Place.TheVariants.{Entry};
 ghost use Rattle.a1ql_reader.specs.Places.{place_of};
-ghost use Rattle.a1ql_reader.specs.Shapes.{items_in, same_text, differ, are_selected, has, is_vertex, is_edge, is_complete, is_operand, is_text_place, fits, list_fits, member_fits, members_fit, object_fits, has_shape};
+ghost use Rattle.a1ql_reader.specs.Shapes.{same_text, differ, are_selected, has, is_vertex, is_edge, is_complete, is_operand, is_text_place, fits, list_fits, member_fits, members_fit, object_fits, has_shape};
 
 use crate::places::{Place, SELECT_LIMIT, place_of};
 use a1_base::Txt;

@@ -1,42 +1,21 @@
 //! What the values in a pattern say, apart from the patterns inside it.
 ghost use Rattle.std.specs.Prelude.{◌≡◌, [], ◌∷◌, option_map, IfOk};
 ghost use Rattle.a1ql_reader.specs.declared.patterns.Comparison.TheVariants.{Eq};
-ghost use Rattle.a1_json.specs.Fields.{as_text};
-ghost use Rattle.a1ql_reader.specs.Shapes.{fields_in, items_in};
+ghost use Rattle.a1_json.specs.Fields.{fields_in, items_in, as_text};
 ghost use Rattle.a1ql_reader.specs.Values.{given_of, compared, tests_at, tests_in, texts_of, is_count_text, is_count, selected, select_in};
 
 use crate::places::{comparison_named, is_reserved};
 use crate::{Comparison, Select, Test};
 use a1_base::Txt;
-use a1_json::Json;
+use a1_json::{Json, fields_in, items_in};
 use a1_value::Given;
 use sqlite_items::Items;
 use std::alloc::{AllocError, Global};
 
-// ---- what is there
-
-fn fields_in(json: &Json) -> &[(Txt, Json)]
-    ensures { result.now ≡ fields_in json.now }
-{
-    match json.as_members() {
-        Some(members) => members,
-        None => &[],
-    }
-}
-
-fn items_in(json: &Json) -> &[Json]
-    ensures { result.now ≡ items_in json.now }
-{
-    match json.as_list() {
-        Some(items) => items,
-        None => &[],
-    }
-}
-
 // ---- comparisons
 
-// A number or a text, as it is given.
-fn given_of(alloc: Global, json: &Json) -> Result<Option<Given>, AllocError>
+/// A number or a text, as it is given; none where it is neither. `AllocError` comes for want of memory.
+pub fn given_of(alloc: Global, json: &Json) -> Result<Option<Given>, AllocError>
     ensures { IfOk result (λ given. given ≡ given_of json.now) }
 {
     if let Some(number) = json.as_int() {

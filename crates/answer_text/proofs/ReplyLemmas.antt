@@ -7,9 +7,9 @@ use Rattle.a1_json.specs.Written.{put_all}
 use Rattle.a1_json.proofs.WholeLemmas.{put_whole}
 use Rattle.a1_value.specs.declared.value.Value.{Value}
 use Rattle.a1_value.specs.declared.value.Value.TheVariants.{Int, Text, Bytes}
-use Rattle.request_reader.specs.declared.answer.Row.{Row}
+use Rattle.a1ql_reader.specs.declared.ask.Row.{Row}
 use Rattle.answer_text.specs.declared.reply.Reply.{Reply}
-use Rattle.answer_text.specs.declared.reply.Reply.TheVariants.{Ok, Rows, Refused, Bad, Memory}
+use Rattle.answer_text.specs.declared.reply.Reply.TheVariants.{Ok, Rows, Count, Refused, Changed, Held, Told, Bad, SpentNode, SpentStamps, Memory}
 use Rattle.answer_text.specs.Reply.{value_data, row_data, with_attr, reply_data}
 
 int_plain : (n : ℤ) → has_float (value_data (Int n)) ≡ false
@@ -37,6 +37,12 @@ attr_plain (Some attr) ms h = h
 pub reply_plain : (r : Reply) → has_float (reply_data r) ≡ false
 reply_plain (Ok stamp) = refl
 reply_plain (Rows at rows) = rw (rows_plain rows)
+reply_plain (Count at count) = refl
 reply_plain (Refused at refusal) = attr_plain refusal.attr _ refl
+reply_plain (Changed a seen now) = refl
+reply_plain (Held a by) = refl
+reply_plain (Told line) = refl
 reply_plain (Bad word) = refl
+reply_plain SpentNode = refl
+reply_plain SpentStamps = refl
 reply_plain Memory = refl

@@ -1,5 +1,5 @@
 -- What a transcript says: its text, its commits, the graph at a stamp, and what each session was told.
-use Rattle.std.specs.Prelude.{◌≡◌, ℕ, ◌<◌, List, [], ◌∷◌, ◌++◌, Contains, nat_le, if◌then◌else◌, filter, slice_get, Some, Result, Ok, Err, decimal}
+use Rattle.std.specs.Prelude.{◌≡◌, ℕ, ◌<◌, ◌≤◌, List, [], ◌∷◌, ◌++◌, Contains, nat_le, if◌then◌else◌, filter, slice_get, Some, Result, Ok, Err, decimal}
 use Rattle.std.specs.List.{flat_map, filter_map}
 use Rattle.type_schema.specs.Graph.{Graph}
 use Rattle.type_schema.specs.declared.refusal.Refusal.{Refusal}
@@ -8,7 +8,7 @@ use Rattle.request_reader.specs.Operations.{Reached, effect}
 use Rattle.request_reader.specs.declared.operation.Op.{Op}
 use Rattle.request_reader.specs.declared.request.BadWord.{BadWord}
 use Rattle.request_reader.specs.declared.request.Request.{Request}
-use Rattle.request_reader.specs.declared.request.Request.TheVariants.{Do}
+use Rattle.request_reader.specs.declared.request.Request.TheVariants.{Do, After}
 use Rattle.answer_text.specs.Reply.{reply_text, ok_stamp, printed}
 use Rattle.answer_text.specs.declared.reply.Reply.{Reply}
 use Rattle.answer_text.specs.declared.reply.Reply.TheVariants as reply
@@ -38,6 +38,12 @@ lines_of sessions = flat_map (λ t. t.lines) sessions
 abbrev pub IsLineAt : List Transcript → ℕ → ℕ → Line → Type 0
 IsLineAt sessions i j line =
     (t : Transcript) × (Contains sessions t × (t.session ≡ i) × (slice_get t.lines j ≡ Some line))
+
+-- each line of these requests that is an `after` of this session names a line before it
+abbrev pub NamesBefore : ℕ → List (List ℕ) → Type 0
+NamesBefore session requests =
+    (k q n : ℕ) (request : List ℕ) → slice_get requests k ≡ Some request → request_of request ≡ Ok (After q n)
+    → q ≡ session → n ≤ k
 
 -- what a line asks for
 abbrev pub asked : Line → Result Request BadWord
@@ -96,3 +102,6 @@ pub data IsTold (sessions : List Transcript) : ℕ → ℕ → ℕ → Type 0 wh
   -- an own line that stands before it printed the stamp
   own : (i j k stamp : ℕ) (line : Line) → k < j → IsLineAt sessions i k line → printed line.reply ≡ Some stamp
       → IsTold sessions i j stamp
+  -- an `after` line before it, answered, that names line n of session q: all that was told before line n + 1 there
+  heard : (i j k q n stamp : ℕ) (line : Line) → k < j → IsLineAt sessions i k line → asked line ≡ Ok (After q n)
+      → line.reply ≡ reply.Told n → IsTold sessions q n stamp → IsTold sessions i j stamp

@@ -1,14 +1,15 @@
 //! The text of a reply.
-ghost use Rattle.std.specs.Prelude.{◌≡◌, IfOk};
+ghost use Rattle.std.specs.Prelude.{◌≡◌, IfOk, string_bytes};
 ghost use Rattle.serde_json.specs.Data.{array, object};
 ghost use Rattle.serde_json.specs.View.{view, members_view};
-ghost use Rattle.answer_text.specs.Reply.{word_text, bad_text, value_data, row_members, row_data, rows_data, refused_data, reply_data, reply_text};
+ghost use Rattle.answer_text.specs.Reply.{word_text, bad_text, value_data, row_members, row_data, rows_data, refused_data, object_text, changed_data, held_data, reply_data, reply_text};
 
 use crate::Reply;
-use a1_base::{Bin, Memory, Txt};
+use a1_base::{Addr, Bin, Memory, TxnId, Txt};
 use a1_json::put_member;
 use a1_value::Value;
-use request_reader::{BadWord, Row};
+use a1ql_reader::Row;
+use request_reader::BadWord;
 use serde_json::{Map, Value as Json, json};
 use std::alloc::{AllocError, Global};
 use type_schema::{Refusal, Word};
@@ -37,6 +38,8 @@ fn word_text(word: Word) -> &'static str
         Word::NoAttr => "no_attr",
         Word::Overflow => "overflow",
         Word::Large => "large",
+        Word::Deep => "deep",
+        Word::WorkingSet => "working_set",
     }
 }
 
@@ -46,7 +49,6 @@ fn bad_text(word: BadWord) -> &'static str
     match word {
         BadWord::NotJson => "not_json",
         BadWord::NotWhole => "not_whole",
-        BadWord::NotBuilt => "not_built",
         BadWord::Shape => "shape",
         BadWord::Name => "name",
         BadWord::Attrs => "attrs",
@@ -104,6 +106,29 @@ fn refused_json(alloc: Global, at: u64, refusal: &Refusal) -> Result<Json, Alloc
     }
 }
 
+// An object by its region and its offset.
+fn object_text(alloc: Global, object: Addr) -> Result<String, AllocError>
+    ensures { IfOk result (λ text. string_bytes text ≡ object_text object) }
+{
+    format!(in alloc; "{}:{}", object.region, object.offset)
+}
+
+// A changed object, as JSON.
+fn changed_json(alloc: Global, object: Addr, seen: u64, now: u64) -> Result<Json, AllocError>
+    ensures { IfOk result (λ v. view v ≡ changed_data object seen now) }
+{
+    let object = object_text(alloc, object)?;
+    json!(in alloc; {"conflict": "changed", "now": now, "object": object.as_str(), "seen": seen})
+}
+
+// A held object, as JSON.
+fn held_json(alloc: Global, object: Addr, by: TxnId) -> Result<Json, AllocError>
+    ensures { IfOk result (λ v. view v ≡ held_data object by) }
+{
+    let object = object_text(alloc, object)?;
+    json!(in alloc; {"by": [by.actor, by.number], "conflict": "held", "object": object.as_str()})
+}
+
 // A reply, as JSON.
 fn reply_json(alloc: Global, reply: &Reply) -> Result<Json, AllocError>
     ensures { IfOk result (λ v. view v ≡ reply_data reply.now) }
@@ -114,11 +139,17 @@ fn reply_json(alloc: Global, reply: &Reply) -> Result<Json, AllocError>
             let rows = rows_json(alloc, rows.as_slice())?;
             json!(in alloc; {"at": *at, "rows": &rows})
         }
+        Reply::Count { at, count } => json!(in alloc; {"at": *at, "count": *count}),
         Reply::Refused { at, refusal } => refused_json(alloc, *at, refusal),
+        Reply::Changed { object, seen, now } => changed_json(alloc, *object, *seen, *now),
+        Reply::Held { object, by } => held_json(alloc, *object, *by),
+        Reply::Told { line } => json!(in alloc; {"told": *line}),
         Reply::Bad { word } => {
             let word = bad_text(*word);
             json!(in alloc; {"bad": word})
         }
+        Reply::SpentNode => json!(in alloc; {"spent": "node"}),
+        Reply::SpentStamps => json!(in alloc; {"spent": "stamps"}),
         Reply::Memory => json!(in alloc; {"memory": true}),
     }
 }

@@ -1,8 +1,5 @@
 pub mod ChangingLemmas
-pub mod ComparingLemmas
 pub mod EffectLemmas
-pub mod FindingLemmas
-pub mod MapLemmas
-pub mod PlacesLemmas
+pub mod KeyedLemmas
 pub mod TakingLemmas
 pub mod RowLemmas

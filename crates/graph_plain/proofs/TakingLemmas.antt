@@ -5,7 +5,6 @@ use Rattle.std.specs.Cmp.Lexicographic.{nat_list_cmp_total}
 use Rattle.std.specs.List.{AllByRecursion, list_any}
 use Rattle.std.proofs.lemmas.Map.Lookups.{CmpEqualImpliesEq}
 use Rattle.a1_base.specs.Maps.{without}
-use Rattle.a1_value.specs.OrderLaws.{value_total}
 use Rattle.type_schema.specs.declared.names.TypeName.{TypeName}
 use Rattle.type_schema.specs.declared.names.VertexName.{VertexName}
 use Rattle.type_schema.specs.declared.names.EdgeName.{EdgeName}
@@ -13,9 +12,10 @@ use Rattle.type_schema.specs.declared.rows.TypeSchema.{TypeSchema}
 use Rattle.type_schema.specs.Schemas.{Record}
 use Rattle.type_schema.specs.Graph.{type_order, vertex_order, edge_order}
 use Rattle.request_reader.specs.Operations.{touches}
-use Rattle.graph_plain.specs.ExactKeys.{exact_types, exact_vertices, exact_edges}
+use Rattle.graph_maps.specs.ExactKeys.{exact_types, exact_vertices, exact_edges}
+use Rattle.graph_maps.specs.KeyOrders.{vertex_total, edge_total}
 use Rattle.graph_plain.specs.Taking.{without_all}
-use Rattle.graph_plain.proofs.MapLemmas.{itself, one_key, all_more}
+use Rattle.graph_maps.proofs.MapLemmas.{itself, one_key, all_more}
 
 abbrev named : {K : Type 0} → (K → K → Ordering) → K → List K → Bool
 named R k keys = list_any (λ x. is_eq (R k x)) keys
@@ -85,19 +85,6 @@ module _ {K X : Type 0} (R : K → K → Ordering) where
 
 type_total : IsTotalOrder type_order
 type_total = then_total (on_total (λ t. t.graph) nat_cmp_total) (on_total (λ t. t.name) nat_list_cmp_total)
-
-vertex_total : IsTotalOrder vertex_order
-vertex_total =
-    then_total (on_total (λ v. v.graph) nat_cmp_total)
-    (then_total (on_total (λ v. v.kind) nat_list_cmp_total) (on_total (λ v. v.key) value_total))
-
-edge_total : IsTotalOrder edge_order
-edge_total =
-    then_total (on_total (λ e. e.graph) nat_cmp_total)
-    (then_total (on_total (λ e. e.kind) nat_list_cmp_total)
-    (then_total (on_total (λ e. e.from_kind) nat_list_cmp_total)
-    (then_total (on_total (λ e. e.from) value_total)
-    (then_total (on_total (λ e. e.to_kind) nat_list_cmp_total) (on_total (λ e. e.to) value_total)))))
 
 pub types_taken : (number : ℕ) (types : List (TypeName × TypeSchema))
     → without_all type_order (map (λ t. t.0) (filter (λ t. nat_eq t.0.graph number) types)) types ≡ filter (λ t. not (nat_eq t.0.graph number)) types

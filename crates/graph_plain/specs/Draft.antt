@@ -1,7 +1,8 @@
 -- The graph while a request is tried out, and the one before it.
-use Rattle.std.specs.Prelude.{◌<◌, ⊤}
+use Rattle.std.specs.Prelude.{◌≡◌, ◌<◌, ⊤}
 use Rattle.a1_base.specs.declared.limits.TheConstants.{GRAPH_NUMBER_LIMIT}
 use Rattle.type_schema.specs.Graph.{Graph}
+use Rattle.type_schema.specs.Schemas.{key_of}
 use Rattle.request_reader.specs.declared.operation.Action.{Action}
 use Rattle.request_reader.specs.declared.operation.Action.TheVariants as act
 use Rattle.graph_plain.specs.declared.draft.Draft.{Draft}
@@ -26,7 +27,9 @@ was_of d = record {
   next = d.was_next;
 }
 
--- the number behind that of a new graph is one of 64 bits
-abbrev pub HasNext : Action → Type 0
-HasNext (act.AddGraph n number) = number < GRAPH_NUMBER_LIMIT
-HasNext other = ⊤
+-- what is true of each action that an operation does: the number behind that of a new graph is one of 64 bits, and the
+-- record of a vertex has its key first
+abbrev pub IsDue : Action → Type 0
+IsDue (act.AddGraph n number) = number < GRAPH_NUMBER_LIMIT
+IsDue (act.WriteVertex v values) = key_of values ≡ v.key
+IsDue other = ⊤

@@ -1,27 +1,47 @@
 //! Doing an action.
 ghost use Rattle.std.specs.Prelude.{◌≡◌, OnOk};
+ghost use Rattle.type_schema.specs.Graph.{type_order, vertex_order, edge_order};
 ghost use Rattle.request_reader.specs.Operations.{after, without_vertex, without_graph};
-ghost use Rattle.graph_plain.specs.Draft.{now_of, was_of, HasNext};
+ghost use Rattle.graph_plain.specs.Draft.{now_of, was_of, IsDue};
 ghost use Rattle.graph_plain.specs.Taking.{without_all};
 
 use crate::draft::Draft;
-use crate::finding::{edges_in, edges_of, types_in, vertices_in};
-use crate::places::{ExactOrd, Places};
+use crate::finding::{edges_in, types_in, vertices_in};
 use a1_base::Memory;
+use graph_maps::{Edges, Places, Vertices};
 use request_reader::Action;
 use std::alloc::Global;
-use type_schema::{GraphName, VertexName};
+use type_schema::{EdgeName, GraphName, TypeName, TypeSchema, VertexName};
 
-// Takes the entries at these keys out. After `Memory` some of them are out.
-fn take_all<K: ExactOrd + Drop, V: Drop>(
-    places: &mut Places<K, V>,
-    keys: Vec<K>,
-) -> Result<(), Memory>
-    ensures ok { OnOk result (places.new.now ≡ without_all K.cmp keys.items places.old.now) }
-    ensures was { places.new.was ≡ places.old.was }
+// Takes these types out. After `Memory` some of them are out.
+fn take_types(types: &mut Places<TypeName, TypeSchema>, names: Vec<TypeName>) -> Result<(), Memory>
+    ensures ok { OnOk result (types.new.now ≡ without_all type_order names.items types.old.now) }
+    ensures was { types.new.was ≡ types.old.was }
 {
-    for key in keys {
-        places.take(key)?;
+    for name in names {
+        types.take(name)?;
+    }
+    Ok(())
+}
+
+// Takes these vertices out. After `Memory` some of them are out.
+fn take_vertices(vertices: &mut Vertices, names: Vec<VertexName>) -> Result<(), Memory>
+    ensures ok { OnOk result (vertices.new.now ≡ without_all vertex_order names.items vertices.old.now) }
+    ensures was { vertices.new.was ≡ vertices.old.was }
+{
+    for name in names {
+        vertices.take(name)?;
+    }
+    Ok(())
+}
+
+// Takes these edges out. After `Memory` some of them are out.
+fn take_edges(alloc: Global, edges: &mut Edges, names: Vec<EdgeName>) -> Result<(), Memory>
+    ensures ok { OnOk result (edges.new.now ≡ without_all edge_order names.items edges.old.now) }
+    ensures was { edges.new.was ≡ edges.old.was }
+{
+    for name in names {
+        edges.take(alloc, name)?;
     }
     Ok(())
 }
@@ -31,8 +51,8 @@ fn drop_vertex(alloc: Global, draft: &mut Draft, name: VertexName) -> Result<(),
     ensures ok { OnOk result (now_of draft.new ≡ without_vertex (now_of draft.old) name) }
     ensures was { was_of draft.new ≡ was_of draft.old }
 {
-    let edges = edges_of(alloc, draft, &name)?;
-    take_all(&mut draft.edges, edges)?;
+    let edges = draft.edges.at_vertex(alloc, &name)?;
+    take_edges(alloc, &mut draft.edges, edges)?;
     draft.vertices.take(name)?;
     Ok(())
 }
@@ -45,9 +65,9 @@ fn drop_graph(alloc: Global, draft: &mut Draft, name: GraphName, number: u64) ->
     let types = types_in(alloc, draft, number)?;
     let vertices = vertices_in(alloc, draft, number)?;
     let edges = edges_in(alloc, draft, number)?;
-    take_all(&mut draft.types, types)?;
-    take_all(&mut draft.vertices, vertices)?;
-    take_all(&mut draft.edges, edges)?;
+    take_types(&mut draft.types, types)?;
+    take_vertices(&mut draft.vertices, vertices)?;
+    take_edges(alloc, &mut draft.edges, edges)?;
     draft.graphs.take(name)?;
     Ok(())
 }
@@ -56,7 +76,7 @@ fn drop_graph(alloc: Global, draft: &mut Draft, name: GraphName, number: u64) ->
 /// back.
 #[tactic(auto, unfolding(request_reader::specs::Operations::after))]
 pub fn act(alloc: Global, draft: &mut Draft, action: Action) -> Result<(), Memory>
-    requires { HasNext action }
+    requires { IsDue action }
     ensures ok { OnOk result (now_of draft.new ≡ after (now_of draft.old) action) }
     ensures was { was_of draft.new ≡ was_of draft.old }
 {
@@ -81,10 +101,7 @@ pub fn act(alloc: Global, draft: &mut Draft, action: Action) -> Result<(), Memor
             draft.vertices.put(name, again, values)
         }
         Action::DropVertex(name) => drop_vertex(alloc, draft, name),
-        Action::AddEdge { name, values } => {
-            let again = name.copy(alloc)?;
-            draft.edges.put(name, again, values)
-        }
-        Action::DropEdge(name) => draft.edges.take(name),
+        Action::AddEdge { name, values } => draft.edges.put(alloc, name, values),
+        Action::DropEdge(name) => draft.edges.take(alloc, name),
     }
 }

@@ -4,10 +4,9 @@ ghost use Rattle.type_schema.specs.declared.rows.StoreKey.TheVariants as key;
 ghost use Rattle.type_schema.specs.Rows.{put_at, gone_at, in_key_order};
 ghost use Rattle.request_reader.specs.declared.operation.Action.TheVariants as act;
 ghost use Rattle.request_reader.specs.Operations.{changes};
-ghost use Rattle.graph_plain.specs.Draft.{now_of, HasNext};
+ghost use Rattle.graph_plain.specs.Draft.{now_of, IsDue};
 
 use crate::draft::Draft;
-use crate::finding::edges_of;
 use a1_base::Memory;
 use request_reader::Action;
 use std::alloc::Global;
@@ -65,7 +64,7 @@ fn add_graph(
     name: &GraphName,
     number: u64,
 ) -> Result<Vec<RowChange>, Memory>
-    requires { HasNext (act.AddGraph name.now number) }
+    requires { IsDue (act.AddGraph name.now number) }
     ensures { IfOk result (λ rows. rows.items ≡ changes (now_of draft.now) (act.AddGraph name.now number)) }
 {
     let mut rows = put(
@@ -84,7 +83,7 @@ fn add_graph(
 fn drop_vertex(alloc: Global, draft: &Draft, name: &VertexName) -> Result<Vec<RowChange>, Memory>
     ensures { IfOk result (λ rows. rows.items ≡ changes (now_of draft.now) (act.DropVertex name.now)) }
 {
-    let edges = edges_of(alloc, draft, name)?;
+    let edges = draft.edges.at_vertex(alloc, name)?;
     let found = in_key_order(alloc, edges)?;
     let mut rows = all_gone(alloc, found)?;
     rows.push(RowChange {
@@ -97,7 +96,7 @@ fn drop_vertex(alloc: Global, draft: &Draft, name: &VertexName) -> Result<Vec<Ro
 /// The rows that the action changes, with copies of what it holds. `Memory` comes for want of memory alone.
 #[tactic(auto, unfolding(request_reader::specs::Operations::changes))]
 pub fn changes_of(alloc: Global, draft: &Draft, action: &Action) -> Result<Vec<RowChange>, Memory>
-    requires { HasNext action.now }
+    requires { IsDue action.now }
     ensures { IfOk result (λ rows. rows.items ≡ changes (now_of draft.now) action.now) }
 {
     match action {

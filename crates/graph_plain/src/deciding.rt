@@ -6,7 +6,7 @@ ghost use Rattle.type_schema.specs.Graph.{edge_at};
 ghost use Rattle.request_reader.specs.declared.operation.Action.TheVariants as act;
 ghost use Rattle.request_reader.specs.declared.operation.Op.TheVariants as op;
 ghost use Rattle.request_reader.specs.Operations.{is_system, new_vertex, new_type, decided};
-ghost use Rattle.graph_plain.specs.Draft.{now_of, HasNext};
+ghost use Rattle.graph_plain.specs.Draft.{now_of, IsDue};
 
 use crate::draft::Draft;
 use crate::looking::{between, found, graph_number, vertex_schema};
@@ -31,7 +31,7 @@ fn is_system(name: &GraphName) -> bool
 #[tactic(auto, unfolding(request_reader::specs::Operations::decided, type_schema::specs::Refusals::unless))]
 fn create_tenant(alloc: Global, draft: &Draft, tenant: &Txt) -> Result<Action, GraphFault>
     ensures exact { Gives result (decided (now_of draft.now) (op.CreateTenant tenant.now)) }
-    ensures next { IfOk result HasNext }
+    ensures due { IfOk result IsDue }
 {
     if draft.tenants.get(tenant).is_some() {
         return refuse(Word::TenantTaken);
@@ -42,7 +42,7 @@ fn create_tenant(alloc: Global, draft: &Draft, tenant: &Txt) -> Result<Action, G
 #[tactic(auto, unfolding(request_reader::specs::Operations::decided, type_schema::specs::Refusals::unless, type_schema::specs::Refusals::need))]
 fn create_graph(alloc: Global, draft: &Draft, name: &GraphName) -> Result<Action, GraphFault>
     ensures exact { Gives result (decided (now_of draft.now) (op.CreateGraph name.now)) }
-    ensures next { IfOk result HasNext }
+    ensures due { IfOk result IsDue }
 {
     if is_system(name) {
         return refuse(Word::System);
@@ -66,7 +66,7 @@ fn create_graph(alloc: Global, draft: &Draft, name: &GraphName) -> Result<Action
 #[tactic(auto, unfolding(request_reader::specs::Operations::decided, type_schema::specs::Refusals::unless, type_schema::specs::Refusals::passing))]
 fn drop_graph(alloc: Global, draft: &Draft, name: &GraphName) -> Result<Action, GraphFault>
     ensures exact { Gives result (decided (now_of draft.now) (op.DropGraph name.now)) }
-    ensures next { IfOk result HasNext }
+    ensures due { IfOk result IsDue }
 {
     if is_system(name) {
         return refuse(Word::System);
@@ -87,7 +87,7 @@ fn new_type(
     schema: &TypeSchema,
 ) -> Result<Action, GraphFault>
     ensures exact { Gives result (new_type (now_of draft.now) name.graph name.name schema.now) }
-    ensures next { IfOk result HasNext }
+    ensures due { IfOk result IsDue }
 {
     if draft.types.get(&name).is_some() {
         return refuse(Word::TypeTaken);
@@ -105,7 +105,7 @@ fn create_type(
     schema: &TypeSchema,
 ) -> Result<Action, GraphFault>
     ensures exact { Gives result (decided (now_of draft.now) (op.CreateType graph.now name.now schema.now)) }
-    ensures next { IfOk result HasNext }
+    ensures due { IfOk result IsDue }
 {
     if is_system(graph) {
         return refuse(Word::System);
@@ -129,7 +129,7 @@ fn new_vertex(
     values: Record,
 ) -> Result<Action, GraphFault>
     ensures exact { Gives result (new_vertex (now_of draft.now) number kind.now values) }
-    ensures next { IfOk result HasNext }
+    ensures due { IfOk result IsDue }
 {
     let name = VertexName {
         graph: number,
@@ -151,7 +151,7 @@ fn put(
     members: &[(Txt, Given)],
 ) -> Result<Action, GraphFault>
     ensures exact { Gives result (decided (now_of draft.now) (op.Put graph.now kind.now members.now)) }
-    ensures next { IfOk result HasNext }
+    ensures due { IfOk result IsDue }
 {
     let number = graph_number(draft, graph)?;
     let schema = vertex_schema(alloc, draft, number, kind)?;
@@ -169,7 +169,7 @@ fn set(
     members: &[(Txt, Given)],
 ) -> Result<Action, GraphFault>
     ensures exact { Gives result (decided (now_of draft.now) (op.Set graph.now kind.now id.now members.now)) }
-    ensures next { IfOk result HasNext }
+    ensures due { IfOk result IsDue }
 {
     let vertex = found(alloc, draft, graph, kind, id)?;
     let values = merge(alloc, vertex.schema, vertex.values, members)?;
@@ -190,7 +190,7 @@ fn add_to(
     by: i64,
 ) -> Result<Action, GraphFault>
     ensures exact { Gives result (decided (now_of draft.now) (op.Add graph.now kind.now id.now attr.now by)) }
-    ensures next { IfOk result HasNext }
+    ensures due { IfOk result IsDue }
 {
     let vertex = found(alloc, draft, graph, kind, id)?;
     let values = add(alloc, vertex.schema, vertex.values, attr, by)?;
@@ -209,7 +209,7 @@ fn drop_vertex(
     id: &Given,
 ) -> Result<Action, GraphFault>
     ensures exact { Gives result (decided (now_of draft.now) (op.Drop graph.now kind.now id.now)) }
-    ensures next { IfOk result HasNext }
+    ensures due { IfOk result IsDue }
 {
     let vertex = found(alloc, draft, graph, kind, id)?;
     Ok(Action::DropVertex(vertex.name))
@@ -222,7 +222,7 @@ fn drop_vertex(
 fn new_edge(draft: &Draft, name: EdgeName, values: Record) -> Result<Action, GraphFault>
     ensures exact { Gives result (unless (is_some (edge_at (now_of draft.now) name)) (refused word.EdgeTaken)
         (Ok (act.AddEdge name values))) }
-    ensures next { IfOk result HasNext }
+    ensures due { IfOk result IsDue }
 {
     if draft.edges.get(&name).is_some() {
         return refuse(Word::EdgeTaken);
@@ -241,7 +241,7 @@ fn link(
     members: &[(Txt, Given)],
 ) -> Result<Action, GraphFault>
     ensures exact { Gives result (decided (now_of draft.now) (op.Link graph.now kind.now from.now to.now members.now)) }
-    ensures next { IfOk result HasNext }
+    ensures due { IfOk result IsDue }
 {
     let edge = between(alloc, draft, graph, kind, from, to)?;
     let values = check(alloc, edge.schema, members)?;
@@ -253,7 +253,7 @@ fn link(
 fn old_edge(draft: &Draft, name: EdgeName) -> Result<Action, GraphFault>
     ensures exact { Gives result (need (edge_at (now_of draft.now) name) (refused word.NoEdge)
         (λ old. Ok (act.DropEdge name))) }
-    ensures next { IfOk result HasNext }
+    ensures due { IfOk result IsDue }
 {
     if draft.edges.get(&name).is_none() {
         return refuse(Word::NoEdge);
@@ -271,7 +271,7 @@ fn unlink(
     to: &End,
 ) -> Result<Action, GraphFault>
     ensures exact { Gives result (decided (now_of draft.now) (op.Unlink graph.now kind.now from.now to.now)) }
-    ensures next { IfOk result HasNext }
+    ensures due { IfOk result IsDue }
 {
     let edge = between(alloc, draft, graph, kind, from, to)?;
     old_edge(draft, edge.name)
@@ -281,7 +281,7 @@ fn unlink(
 /// operation's table.
 pub fn decide(alloc: Global, draft: &Draft, op: &Op) -> Result<Action, GraphFault>
     ensures exact { Gives result (decided (now_of draft.now) op.now) }
-    ensures next { IfOk result HasNext }
+    ensures due { IfOk result IsDue }
 {
     match op {
         Op::CreateTenant(tenant) => create_tenant(alloc, draft, tenant),

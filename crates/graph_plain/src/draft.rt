@@ -4,12 +4,12 @@ ghost use Rattle.type_schema.specs.declared.opening.TheConstants.{FIRST_NUMBER};
 ghost use Rattle.type_schema.specs.Graph.{names_graph, names_type, names_schema, opening};
 ghost use Rattle.graph_plain.specs.Draft.{now_of, was_of};
 
-use crate::places::Places;
 use a1_base::{Memory, Txt};
+use graph_maps::{Edges, Places, Vertices};
 use std::alloc::Global;
 use type_schema::{
-    Attr, EdgeName, FIRST_NUMBER, GraphName, Kind, NAME_TYPE, NAMES, NAMES_NUMBER, Record,
-    SYSTEM_TENANT, Schema, TypeName, TypeSchema, VertexName,
+    Attr, FIRST_NUMBER, GraphName, Kind, NAME_TYPE, NAMES, NAMES_NUMBER, SYSTEM_TENANT, Schema,
+    TypeName, TypeSchema,
 };
 
 /// The graph, which can go back to what it was before a request.
@@ -20,8 +20,8 @@ pub struct Draft {
     /// Each graph's number.
     pub graphs: Places<GraphName, u64>,
     pub types: Places<TypeName, TypeSchema>,
-    pub vertices: Places<VertexName, Record>,
-    pub edges: Places<EdgeName, Record>,
+    pub vertices: Vertices,
+    pub edges: Edges,
     /// The number that the next graph gets.
     pub next: u64,
     /// What that number was.
@@ -68,8 +68,8 @@ impl Draft {
             tenants: Places::new(alloc),
             graphs: Places::new(alloc),
             types: Places::new(alloc),
-            vertices: Places::new(alloc),
-            edges: Places::new(alloc),
+            vertices: Vertices::new(alloc),
+            edges: Edges::new(alloc),
             next: FIRST_NUMBER,
             was_next: FIRST_NUMBER,
         }

@@ -6,6 +6,7 @@
 #![tactic(auto)]
 
 mod acting;
+mod answering;
 mod changing;
 mod comparing;
 mod deciding;
@@ -13,12 +14,8 @@ mod deciding;
 mod deciding_tests;
 mod draft;
 mod effects;
-mod exact;
 mod finding;
 mod looking;
-mod places;
-#[cfg(test)]
-mod places_tests;
 mod plain;
 mod rows;
 #[cfg(test)]

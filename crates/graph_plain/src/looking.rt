@@ -1,8 +1,10 @@
 //! What an operation looks up in the graph, in the order in which it does.
-ghost use Rattle.std.specs.Prelude.{◌≡◌};
+ghost use Rattle.std.specs.Prelude.{◌≡◌, IfOk};
 ghost use Rattle.std.specs.Result.{result_map_both};
 ghost use Rattle.type_schema.specs.Refusals.{Gives};
-ghost use Rattle.request_reader.specs.Operations.{graph_number, vertex_schema, edge_schema, vertex_named, found, between, ends_there};
+ghost use Rattle.type_schema.specs.Schemas.{key_of};
+ghost use Rattle.type_schema.specs.Lookups.{graph_number, vertex_schema, edge_schema};
+ghost use Rattle.request_reader.specs.Operations.{vertex_named, found, between, ends_there};
 ghost use Rattle.graph_plain.specs.Draft.{now_of};
 
 use crate::draft::Draft;
@@ -48,7 +50,7 @@ impl<'a> Model for Edge<'a> {
 }
 
 /// The number of the graph of this name, or `NoTenant` where its tenant is not there, or `NoGraph` where it is not.
-#[tactic(auto, unfolding(request_reader::specs::Operations::graph_number, type_schema::specs::Refusals::need))]
+#[tactic(auto, unfolding(type_schema::specs::Lookups::graph_number, type_schema::specs::Refusals::need))]
 pub fn graph_number(draft: &Draft, name: &GraphName) -> Result<u64, GraphFault>
     ensures { Gives result (graph_number (now_of draft.now) name.now) }
 {
@@ -62,7 +64,7 @@ pub fn graph_number(draft: &Draft, name: &GraphName) -> Result<u64, GraphFault>
 }
 
 /// The schema of this type of vertices. `NoType` comes where the graph has no type of this name, or one of edges.
-#[tactic(auto, unfolding(request_reader::specs::Operations::vertex_schema, type_schema::specs::Refusals::need))]
+#[tactic(auto, unfolding(type_schema::specs::Lookups::vertex_schema, type_schema::specs::Refusals::need))]
 pub fn vertex_schema<'a>(
     alloc: Global,
     draft: &'a Draft,
@@ -82,7 +84,7 @@ pub fn vertex_schema<'a>(
 }
 
 /// The schema of this type of edges. `NoType` comes where the graph has no type of this name, or one of vertices.
-#[tactic(auto, unfolding(request_reader::specs::Operations::edge_schema, type_schema::specs::Refusals::need))]
+#[tactic(auto, unfolding(type_schema::specs::Lookups::edge_schema, type_schema::specs::Refusals::need))]
 pub fn edge_schema<'a>(
     alloc: Global,
     draft: &'a Draft,
@@ -108,8 +110,10 @@ fn vertex_named<'a>(
     name: VertexName,
     schema: &'a Schema,
 ) -> Result<Vertex<'a>, GraphFault>
-    ensures { Gives result (vertex_named (now_of draft.now) name.graph name.kind schema.now name.key) }
+    ensures exact { Gives result (vertex_named (now_of draft.now) name.graph name.kind schema.now name.key) }
+    ensures keyed { IfOk result (λ vertex. key_of vertex.values ≡ vertex.name.key) }
 {
+    draft.vertices.keyed();
     match draft.vertices.get(&name) {
         Some(values) => Ok(Vertex {
             name,
@@ -120,7 +124,8 @@ fn vertex_named<'a>(
     }
 }
 
-/// The vertex of this graph, type and key, or the refusal of the first of these that is not there.
+/// The vertex of this graph, type and key, or the refusal of the first of these that is not there. Its record has its key
+/// first.
 #[tactic(auto, unfolding(request_reader::specs::Operations::found, type_schema::specs::Refusals::passing))]
 pub fn found<'a>(
     alloc: Global,
@@ -129,7 +134,8 @@ pub fn found<'a>(
     kind: &Txt,
     id: &Given,
 ) -> Result<Vertex<'a>, GraphFault>
-    ensures { Gives result (found (now_of draft.now) graph.now kind.now id.now) }
+    ensures exact { Gives result (found (now_of draft.now) graph.now kind.now id.now) }
+    ensures keyed { IfOk result (λ vertex. key_of vertex.values ≡ vertex.name.key) }
 {
     let number = graph_number(draft, graph)?;
     let schema = vertex_schema(alloc, draft, number, kind)?;

@@ -4,7 +4,7 @@ use Rattle.std.specs.List.{list_all, list_any}
 use Rattle.std.specs.Str.{bytes_eq}
 use Rattle.std.specs.Borrow.{Bor}
 use Rattle.a1_json.specs.declared.tree.Json.{Json}
-use Rattle.a1_json.specs.Fields.{Fields, member_of, as_members, as_list, as_text, as_int, as_flag}
+use Rattle.a1_json.specs.Fields.{Fields, member_of, as_members, as_list, fields_in, items_in, as_text, as_int, as_flag}
 use Rattle.type_schema.specs.Names.{is_name, graph_whole}
 use Rattle.request_reader.specs.declared.forms.Place.{Place}
 use Rattle.request_reader.specs.declared.forms.Place.TheVariants as place
@@ -49,23 +49,6 @@ form_of verb.Add = map (λ m. (m.0.now, m.1, m.2)) ADD.now
 form_of verb.Drop = map (λ m. (m.0.now, m.1, m.2)) DROP.now
 form_of verb.Link = map (λ m. (m.0.now, m.1, m.2)) LINK.now
 form_of verb.Unlink = map (λ m. (m.0.now, m.1, m.2)) UNLINK.now
-
--- ---- what is there
-
--- its members, or none where it is no object
-abbrev pub fields_or_none : Option Fields → Fields
-fields_or_none None = []
-fields_or_none (Some fields) = fields
-
-abbrev pub items_or_none : Option (List Json) → List Json
-items_or_none None = []
-items_or_none (Some items) = items
-
-abbrev pub fields_in : Json → Fields
-fields_in json = fields_or_none (as_members json)
-
-abbrev pub items_in : Json → List Json
-items_in json = items_or_none (as_list json)
 
 -- ---- shape
 

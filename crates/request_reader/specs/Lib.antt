@@ -1,4 +1,3 @@
 pub mod Operations
 pub mod Forms
 pub mod Request
-pub mod Answers

@@ -1,5 +1,5 @@
 -- What operations mean over a graph: the graph afterwards with the changes, or the refusal.
-use Rattle.std.specs.Prelude.{ℕ, ◌+◌, List, [], ◌∷◌, ◌++◌, length, map, filter, Bool, not, ◌||◌, nat_eq, nat_le, nat_lt, Option, Some, None, is_some, Result, Ok, bytes_eq, sum_by}
+use Rattle.std.specs.Prelude.{ℕ, ◌+◌, List, [], ◌∷◌, ◌++◌, length, map, filter, Bool, not, ◌||◌, nat_eq, nat_le, nat_lt, is_some, Result, Ok, bytes_eq, sum_by}
 use Rattle.std.specs.Ordering.{is_eq}
 use Rattle.a1_base.specs.declared.limits.TheConstants.{CHANGE_LIMIT, CHANGE_BYTES_LIMIT, GRAPH_NUMBER_LIMIT}
 use Rattle.a1_base.specs.Maps.{with_entry, without}
@@ -17,10 +17,10 @@ use Rattle.type_schema.specs.declared.rows.StoreKey.{StoreKey}
 use Rattle.type_schema.specs.declared.rows.StoreKey.TheVariants as key
 use Rattle.type_schema.specs.declared.rows.StoreValue.TheVariants as value
 use Rattle.type_schema.specs.declared.rows.TypeSchema.{TypeSchema}
-use Rattle.type_schema.specs.declared.rows.TypeSchema.TheVariants.{OfVertices, OfEdges}
 use Rattle.type_schema.specs.Names.{Name}
 use Rattle.type_schema.specs.Refusals.{refused, unless, need, passing}
 use Rattle.type_schema.specs.Schemas.{Schema, Record, checked, merged, added, key_of, key_in}
+use Rattle.type_schema.specs.Lookups.{graph_number, vertex_schema, edge_schema}
 use Rattle.type_schema.specs.Graph.{Graph, graph_order, type_order, vertex_order, edge_order, source, target, tenant_at, number_at, type_at, vertex_at, edge_at, system}
 use Rattle.type_schema.specs.Rows.{put_at, gone_at, item_size, in_key_order}
 use Rattle.request_reader.specs.declared.operation.Op.{Op}
@@ -34,29 +34,6 @@ use Rattle.request_reader.specs.declared.operation.Action.TheVariants as act
 -- the graph belongs to the tenant `sys`
 abbrev pub is_system : GraphName → Bool
 is_system n = bytes_eq n.tenant system
-
--- the number of the graph of this name
-unfoldable pub graph_number : Graph → GraphName → Result ℕ Refusal
-graph_number g n =
-    need (tenant_at g n.tenant) (refused word.NoTenant) (λ u. need (number_at g n) (refused word.NoGraph) Ok)
-
-abbrev pub of_vertices : Option TypeSchema → Option Schema
-of_vertices None = None
-of_vertices (Some (OfVertices schema)) = Some schema
-of_vertices (Some (OfEdges schema)) = None
-
-abbrev pub of_edges : Option TypeSchema → Option Schema
-of_edges None = None
-of_edges (Some (OfVertices schema)) = None
-of_edges (Some (OfEdges schema)) = Some schema
-
--- the schema of this type of vertices
-unfoldable pub vertex_schema : Graph → ℕ → Name → Result Schema Refusal
-vertex_schema g number kind = need (of_vertices (type_at g (record { graph = number; name = kind }))) (refused word.NoType) Ok
-
--- the schema of this type of edges
-unfoldable pub edge_schema : Graph → ℕ → Name → Result Schema Refusal
-edge_schema g number kind = need (of_edges (type_at g (record { graph = number; name = kind }))) (refused word.NoType) Ok
 
 -- a vertex that is there, with the schema of its type and its record
 pub record Found : Type 0 where

@@ -1,14 +1,14 @@
 -- What a line asks for, read over its JSON tree.
-use Rattle.std.specs.Prelude.{◌≡◌, ℕ, ℤ, List, [], ◌∷◌, Bool, true, false, not, ◌&&◌, ◌||◌, Option, Some, None, is_some, option_map, option_and_then, Result, Ok, Err, if◌then◌else◌, codes, ⊤}
+use Rattle.std.specs.Prelude.{◌≡◌, ℕ, ℤ, pos, negsuc, nat_le, List, [], ◌∷◌, Bool, true, false, not, ◌&&◌, Option, Some, None, option_map, option_and_then, Result, Ok, Err, if◌then◌else◌, codes, ⊤}
 use Rattle.std.specs.List.{list_all}
 use Rattle.std.specs.Str.{bytes_eq}
 use Rattle.a1_json.specs.declared.tree.Json.{Json}
 use Rattle.a1_json.specs.declared.tree.JsonFault.{JsonFault}
 use Rattle.a1_json.specs.declared.tree.JsonFault.TheVariants as json_fault
 use Rattle.a1_json.specs.Tree.{json_of}
-use Rattle.a1_json.specs.Fields.{Fields, member_of, as_members, as_list, as_text, as_int, as_flag}
+use Rattle.a1_json.specs.Fields.{Fields, member_of, as_members, as_list, fields_or_none, items_or_none, fields_in, items_in, as_text, as_int, as_flag}
+use Rattle.a1_base.specs.declared.limits.TheConstants.{SESSION_LIMIT}
 use Rattle.a1_value.specs.declared.given.Given.{Given}
-use Rattle.a1_value.specs.declared.given.Given.TheVariants as given
 use Rattle.type_schema.specs.declared.names.GraphName.{GraphName}
 use Rattle.type_schema.specs.declared.rows.TypeSchema.{TypeSchema}
 use Rattle.type_schema.specs.declared.rows.TypeSchema.TheVariants.{OfVertices, OfEdges}
@@ -19,49 +19,20 @@ use Rattle.type_schema.specs.Names.{Name, graph_whole}
 use Rattle.type_schema.specs.Refusals.{need, passing, unless}
 use Rattle.type_schema.specs.Schemas.{Schema, Members}
 use Rattle.type_schema.specs.Formed.{is_type}
+use Rattle.a1ql_reader.specs.Pattern.{PatternWord, Shape, Name as NoName, pattern_of}
+use Rattle.a1ql_reader.specs.Values.{given_of}
 use Rattle.request_reader.specs.declared.forms.Verb.{Verb}
 use Rattle.request_reader.specs.declared.forms.Verb.TheVariants as verb
 use Rattle.request_reader.specs.declared.operation.End.{End}
 use Rattle.request_reader.specs.declared.operation.Op.{Op}
 use Rattle.request_reader.specs.declared.operation.Op.TheVariants as op
 use Rattle.request_reader.specs.declared.request.Request.{Request}
-use Rattle.request_reader.specs.declared.request.Request.TheVariants.{Do, Name as NameAsked}
+use Rattle.request_reader.specs.declared.request.Request.TheVariants.{Do, Ask as Asks, After}
 use Rattle.request_reader.specs.declared.request.BadWord.{BadWord}
 use Rattle.request_reader.specs.declared.request.BadWord.TheVariants as bad
 use Rattle.request_reader.specs.declared.request.RequestFault.{RequestFault}
 use Rattle.request_reader.specs.declared.request.RequestFault.TheVariants as fault
-use Rattle.request_reader.specs.Forms.{fields_or_none, items_or_none, fields_in, items_in, verb_of, body_fits, body_named}
-
--- ---- a request for a name
-
-abbrev pub equals_text : List ℕ → Option (List ℕ) → Bool
-equals_text text None = false
-equals_text text (Some found) = bytes_eq found text
-
--- whether the member is there and is this text
-abbrev pub is_text : List ℕ → Option Json → Bool
-is_text text json = equals_text text (option_and_then as_text json)
-
--- an object of two members, of these names
-abbrev pub has_two : List ℕ → List ℕ → Fields → Bool
-has_two one two (a ∷ b ∷ []) = bytes_eq a.0 one && bytes_eq b.0 two
-has_two one two fields = false
-
--- X, in `{"_type":"name","id":X}` with X a text
-abbrev pub name_in : Json → Option (List ℕ)
-name_in pattern =
-    if has_two (codes "_type") (codes "id") (fields_in pattern)
-    && is_text (codes "name") (member_of (codes "_type") (fields_in pattern))
-    then option_and_then as_text (member_of (codes "id") (fields_in pattern))
-    else None
-
--- X, in `{"ask":{..},"graph":"sys/names"}`
-unfoldable pub name_asked : Json → Option (List ℕ)
-name_asked json =
-    if has_two (codes "ask") (codes "graph") (fields_in json)
-    && is_text (codes "sys/names") (member_of (codes "graph") (fields_in json))
-    then option_and_then name_in (member_of (codes "ask") (fields_in json))
-    else None
+use Rattle.request_reader.specs.Forms.{verb_of, body_fits, body_named}
 
 -- ---- form
 
@@ -86,17 +57,17 @@ abbrev pub operation_named : Option (Verb × Json) → Bool
 operation_named None = false
 operation_named (Some o) = body_named o.0 o.1
 
-abbrev pub is_do : Option (List ℕ × Json) → Bool
-is_do None = false
-is_do (Some m) = bytes_eq m.0 (codes "do")
+abbrev pub items_named : List ℕ → Option (List ℕ × Json) → List Json
+items_named name None = []
+items_named name (Some m) = if bytes_eq m.0 name then items_in m.1 else []
 
-abbrev pub operations_in : Option (List ℕ × Json) → List Json
-operations_in None = []
-operations_in (Some m) = items_in m.1
+-- the items of an object whose one member is a list of this name, or none
+unfoldable pub listed : List ℕ → Json → List Json
+listed name json = items_named name (only_member (fields_in json))
 
 -- the operations of `{"do":[..]}`
-unfoldable pub operations : Json → List Json
-operations json = if is_do (only_member (fields_in json)) then operations_in (only_member (fields_in json)) else []
+abbrev pub operations : Json → List Json
+operations json = listed (codes "do") json
 
 abbrev pub is_some_list : List Json → Bool
 is_some_list [] = false
@@ -118,14 +89,6 @@ graph_in name fields =
 
 abbrev pub number_in : List ℕ → Fields → Result ℤ BadWord
 number_in name fields = need (option_and_then as_int (member_of name fields)) bad.Attrs Ok
-
-abbrev pub number_or_text : Option ℤ → Option (List ℕ) → Option Given
-number_or_text (Some n) text = Some (given.Int n)
-number_or_text None text = option_map given.Text text
-
--- a number or a text, as it is given
-abbrev pub given_of : Json → Option Given
-given_of json = number_or_text (as_int json) (as_text json)
 
 abbrev pub given_in : List ℕ → Fields → Result Given BadWord
 given_in name fields = need (option_and_then given_of (member_of name fields)) bad.Attrs Ok
@@ -255,16 +218,50 @@ do_of json =
     (unless (not (list_all (λ j. operation_named (operation j)) (operations json))) bad.Name
     (passing (all_said (operations json)) (λ ops. Ok (Do ops))))
 
--- a member of an ask or an after, which are not built yet
-abbrev pub is_not_built : Json → Bool
-is_not_built json = is_some (member_of (codes "ask") (fields_in json)) || is_some (member_of (codes "after") (fields_in json))
+-- the word of a pattern's fault
+abbrev pub worded : {X : Type 0} → Result X PatternWord → Result X BadWord
+worded (Ok x) = Ok x
+worded (Err Shape) = Err bad.Shape
+worded (Err NoName) = Err bad.Name
 
-abbrev pub name_or_do : Option (List ℕ) → Json → Result Request BadWord
-name_or_do (Some name) json = Ok (NameAsked name)
-name_or_do None json = unless (is_not_built json) bad.NotBuilt (do_of json)
+-- `{"ask":PATTERN,"graph":G}`: over both first the shape, then the names
+unfoldable pub ask_of : Json → Json → Result Request BadWord
+ask_of pattern graph =
+    need (as_text graph) bad.Shape (λ text.
+    passing (worded (pattern_of pattern)) (λ pattern.
+    need (graph_whole text) bad.Name (λ graph.
+    Ok (Asks (record { graph = graph; pattern = pattern })))))
 
+-- what stands at `ask` and at `graph`, where these are all members
+abbrev pub asked : Fields → Option (Json × Json)
+asked (a ∷ b ∷ []) = if bytes_eq a.0 (codes "ask") && bytes_eq b.0 (codes "graph") then Some (a.1, b.1) else None
+asked fields = None
+
+-- the number, where it is one from 1 to the limit
+abbrev pub counted : ℕ → ℤ → Option ℕ
+counted limit (pos n) = if nat_le 1 n && nat_le n limit then Some n else None
+counted limit (negsuc n) = None
+
+abbrev pub counted_in : ℕ → Json → Option ℕ
+counted_in limit json = option_and_then (counted limit) (as_int json)
+
+-- a session and a line
+abbrev pub line_in : List Json → Option (ℕ × ℕ)
+line_in (s ∷ k ∷ []) =
+    option_and_then (λ session. option_map (λ line. (session, line)) (counted_in 4294967295 k)) (counted_in SESSION_LIMIT s)
+line_in js = None
+
+abbrev pub ask_or_do : Option (Json × Json) → Json → Result Request BadWord
+ask_or_do (Some a) json = ask_of a.0 a.1
+ask_or_do None json = do_of json
+
+abbrev pub after_or : Option (ℕ × ℕ) → Result Request BadWord → Result Request BadWord
+after_or (Some l) other = Ok (After l.0 l.1)
+after_or None other = other
+
+-- `{"after":[S,K]}`, an ask, or else a `do`, which turns away what is none of them
 abbrev pub request_in : Result Json JsonFault → Result Request BadWord
-request_in (Ok json) = name_or_do (name_asked json) json
+request_in (Ok json) = after_or (line_in (listed (codes "after") json)) (ask_or_do (asked (fields_in json)) json)
 request_in (Err json_fault.NotJson) = Err bad.NotJson
 request_in (Err json_fault.NotWhole) = Err bad.NotWhole
 request_in (Err json_fault.Memory) = Err bad.NotJson
@@ -272,6 +269,14 @@ request_in (Err json_fault.Memory) = Err bad.NotJson
 -- what a line asks for, or the word by which it is turned away
 unfoldable pub request_of : List ℕ → Result Request BadWord
 request_of line = request_in (json_of line)
+
+abbrev pub line_named : Result Request BadWord → Option (ℕ × ℕ)
+line_named (Ok (After session line)) = Some (session, line)
+line_named read = None
+
+-- the session and the line that a line names, where it reads as an `after`
+unfoldable pub names_line : List ℕ → Option (ℕ × ℕ)
+names_line line = line_named (request_of line)
 
 -- a reading gives this, or wants memory
 abbrev pub Reads : {X : Type 0} → Result X RequestFault → Result X BadWord → Type 0

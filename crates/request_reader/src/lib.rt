@@ -5,7 +5,7 @@
 //! knows nothing of stamps, sessions or where a graph is kept.
 #![tactic(auto)]
 
-mod answer;
+mod asking;
 mod forms;
 mod naming;
 mod operation;
@@ -15,8 +15,9 @@ mod saying;
 mod shapes;
 #[cfg(test)]
 mod tests;
+mod waiting;
 
-pub use answer::{Answer, Row};
 pub use operation::{Action, End, Op};
 pub use reading::read;
 pub use request::{BadWord, Request, RequestFault};
+pub use waiting::names_line;

@@ -6,9 +6,9 @@ ghost use Rattle.type_schema.specs.Names.{is_name, graph_whole};
 ghost use Rattle.request_reader.specs.Forms.{form_in, text_is_name, text_is_graph, is_named, members_named, all_named, attribute_form, part_named, parts_named, body_named};
 
 use crate::forms::{ATTRIBUTE, END, Member, Place, Verb};
-use crate::shapes::{fields_in, form_of, items_in};
+use crate::shapes::form_of;
 use a1_base::Txt;
-use a1_json::{Json, member};
+use a1_json::{Json, fields_in, items_in, member};
 use type_schema::name_of;
 
 // ---- texts

@@ -1,62 +1,35 @@
 //! Reading a line as a request, over its JSON tree.
 ghost use Rattle.std.specs.Prelude.{◌≡◌, option_map};
 ghost use Rattle.std.specs.List.{list_all};
-ghost use Rattle.request_reader.specs.Request.{is_text, has_two, name_in, name_asked, operation, operations, operation_fits, operation_named, said_by, all_said, do_of, is_not_built, request_of, Reads};
+ghost use Rattle.request_reader.specs.Request.{listed, operation, operation_fits, operation_named, said_by, all_said, do_of, request_of, Reads};
 
 use crate::Op;
+use crate::asking::{ask_of, asked, line_in};
 use crate::forms::Verb;
-use crate::naming::{body_named, text_of};
+use crate::naming::body_named;
 use crate::request::{BadWord, Request, RequestFault};
 use crate::saying::said;
-use crate::shapes::{body_fits, fields_in, items_in, verb_of};
-use a1_base::Txt;
-use a1_json::{Json, JsonFault, member};
+use crate::shapes::{body_fits, verb_of};
+use a1_json::{Json, JsonFault, fields_in, items_in};
 use sqlite_items::Items;
 use std::alloc::Global;
 
-// ---- a request for a name
+// ---- members
 
-// Whether the member is there and is this text.
-fn is_text(text: &str, json: Option<&Json>) -> bool
-    ensures { result ≡ is_text text.now (option_map (λ j. j.now) json.entry) }
+// The items of an object whose one member is a list of this name, or none.
+#[tactic(auto, unfolding(crate::specs::Request::listed))]
+fn listed<'a>(name: &str, json: &'a Json) -> &'a [Json]
+    ensures { result.now ≡ listed name.now json.now }
 {
-    match text_of(json) {
-        Some(found) => found == text,
-        None => false,
-    }
-}
-
-// Whether these are two members, of these names.
-fn has_two(one: &str, two: &str, members: &[(Txt, Json)]) -> bool
-    ensures { result ≡ has_two one.now two.now members.now }
-{
-    match members {
-        [a, b] => a.0.as_text() == one && b.0.as_text() == two,
-        _ => false,
-    }
-}
-
-// The name that a pattern asks for.
-fn name_in(pattern: &Json) -> Option<&str>
-    ensures { option_map (λ name. name.now) result ≡ name_in pattern.now }
-{
-    let members = fields_in(pattern);
-    if has_two("_type", "id", members) && is_text("name", member(members, "_type")) {
-        text_of(member(members, "id"))
-    } else {
-        None
-    }
-}
-
-#[tactic(auto, unfolding(crate::specs::Request::name_asked))]
-fn name_asked(json: &Json) -> Option<&str>
-    ensures { option_map (λ name. name.now) result ≡ name_asked json.now }
-{
-    let members = fields_in(json);
-    if has_two("ask", "graph", members) && is_text("sys/names", member(members, "graph")) {
-        name_in(member(members, "ask")?)
-    } else {
-        None
+    match fields_in(json) {
+        [only] => {
+            if only.0.as_text() == name {
+                items_in(&only.1)
+            } else {
+                &[]
+            }
+        }
+        _ => &[],
     }
 }
 
@@ -125,29 +98,12 @@ fn all_said(alloc: Global, items: &[Json]) -> Result<Items<Op>, RequestFault>
 
 // ---- requests
 
-// The operations of `{"do":[..]}`, or none.
-#[tactic(auto, unfolding(crate::specs::Request::operations))]
-fn operations(json: &Json) -> &[Json]
-    ensures { result.now ≡ operations json.now }
-{
-    match fields_in(json) {
-        [only] => {
-            if only.0.as_text() == "do" {
-                items_in(&only.1)
-            } else {
-                &[]
-            }
-        }
-        _ => &[],
-    }
-}
-
 // Over all operations first their form, then their names, then their lists of attributes.
 #[tactic(auto, unfolding(crate::specs::Request::do_of, type_schema::specs::Refusals::unless, type_schema::specs::Refusals::passing))]
 fn do_of(alloc: Global, json: &Json) -> Result<Request, RequestFault>
     ensures { Reads result (do_of json.now) }
 {
-    let items = operations(json);
+    let items = listed("do", json);
     if items.is_empty() || !all_fit(items) {
         return Err(RequestFault::Bad(BadWord::Shape));
     }
@@ -157,17 +113,9 @@ fn do_of(alloc: Global, json: &Json) -> Result<Request, RequestFault>
     Ok(Request::Do(all_said(alloc, items)?))
 }
 
-// Whether it has a member of an ask or an after.
-fn is_not_built(json: &Json) -> bool
-    ensures { result ≡ is_not_built json.now }
-{
-    let members = fields_in(json);
-    member(members, "ask").is_some() || member(members, "after").is_some()
-}
-
 /// Reads a line as a request: the JSON value decides, so blanks, escapes, the order of members and members that an
 /// equal name replaces do not matter (RFC 8259). `Bad` comes with the first word of `BadWord` that is true of the line.
-#[tactic(auto, unfolding(crate::specs::Request::request_of, type_schema::specs::Refusals::unless))]
+#[tactic(auto, unfolding(crate::specs::Request::request_of))]
 pub fn read(alloc: Global, line: &[u8]) -> Result<Request, RequestFault>
     ensures { Reads result (request_of line.now) }
 {
@@ -177,11 +125,11 @@ pub fn read(alloc: Global, line: &[u8]) -> Result<Request, RequestFault>
         Err(JsonFault::NotWhole) => return Err(RequestFault::Bad(BadWord::NotWhole)),
         Err(JsonFault::Memory) => return Err(RequestFault::Memory),
     };
-    if let Some(name) = name_asked(&json) {
-        return Ok(Request::Name(Txt::from_text(alloc, name)?));
+    if let Some((session, line)) = line_in(listed("after", &json)) {
+        return Ok(Request::After { session, line });
     }
-    if is_not_built(&json) {
-        return Err(RequestFault::Bad(BadWord::NotBuilt));
+    match asked(fields_in(&json)) {
+        Some((pattern, graph)) => ask_of(alloc, pattern, graph),
+        None => do_of(alloc, &json),
     }
-    do_of(alloc, &json)
 }

@@ -1,6 +1,6 @@
 //! What a line asks for.
 use crate::Op;
-use a1_base::Txt;
+use a1ql_reader::Ask;
 use sqlite_items::Items;
 use std::alloc::{AllocError, AllocFailed};
 
@@ -9,8 +9,10 @@ use std::alloc::{AllocError, AllocFailed};
 pub enum Request {
     /// `{"do":[..]}`: these operations are to be done, one behind the other, all or none.
     Do(Items<Op>),
-    /// `{"ask":{"_type":"name","id":X},"graph":"sys/names"}`: the vertex of this name is asked for.
-    Name(Txt),
+    /// `{"ask":PATTERN,"graph":G}`: this is asked for.
+    Ask(Ask),
+    /// `{"after":[S,K]}`: line K of session S, counted from 1, is to be answered first.
+    After { session: u32, line: u32 },
 }
 
 /// Why a line is no request: the first of these words that is true of it.
@@ -20,8 +22,6 @@ pub enum BadWord {
     NotJson,
     /// A number in it is no whole number of 64 bits.
     NotWhole,
-    /// It is an object with a member `ask` or `after`, and no request for a name: that is not built yet.
-    NotBuilt,
     /// It does not have the form of a request: a member is missing, unknown, or of another JSON kind.
     Shape,
     /// A text in the place of a name, or of a graph, is none.

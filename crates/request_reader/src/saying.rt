@@ -1,20 +1,21 @@
 //! What an operation says, out of its object.
 ghost use Rattle.std.specs.Prelude.{◌≡◌, codes, option_map, option_and_then, IfOk, Ok};
 ghost use Rattle.a1_json.specs.Fields.{member_of, as_text, as_int, as_flag};
+ghost use Rattle.a1ql_reader.specs.Values.{given_of};
 ghost use Rattle.type_schema.specs.Names.{graph_whole};
 ghost use Rattle.type_schema.specs.Refusals.{need};
 ghost use Rattle.request_reader.specs.declared.forms.Verb.TheVariants as verbs;
 ghost use Rattle.request_reader.specs.declared.request.BadWord.TheVariants as bad;
-ghost use Rattle.request_reader.specs.Request.{text_in, graph_in, number_in, given_of, given_in, given_members, fields_at, values_in, end_of, end_in, kind_named, is_indexed, attr_of, attrs_of, ruled, attrs_in, said, Reads};
+ghost use Rattle.request_reader.specs.Request.{text_in, graph_in, number_in, given_in, given_members, fields_at, values_in, end_of, end_in, kind_named, is_indexed, attr_of, attrs_of, ruled, attrs_in, said, Reads};
 
 use crate::forms::Verb;
 use crate::naming::text_of;
 use crate::request::{BadWord, RequestFault};
-use crate::shapes::{fields_in, items_in};
 use crate::{End, Op};
 use a1_base::{ReadFault, Txt};
-use a1_json::{Json, member};
+use a1_json::{Json, fields_in, items_in, member};
 use a1_value::Given;
+use a1ql_reader::given_of;
 use sqlite_items::Items;
 use std::alloc::{AllocError, Global};
 use type_schema::{Attr, GraphName, Kind, Schema, TypeSchema, is_type, whole_graph};
@@ -31,16 +32,21 @@ fn name_from(alloc: Global, text: Option<&str>) -> Result<Txt, RequestFault>
     }
 }
 
+/// The graph of a text, or this word where it has none.
 #[tactic(auto, unfolding(type_schema::specs::Refusals::need))]
-fn graph_from(alloc: Global, text: Option<&str>) -> Result<GraphName, RequestFault>
-    ensures { Reads result (need (option_and_then graph_whole (option_map (λ t. t.now) text.entry)) bad.Attrs Ok) }
+pub fn graph_from(
+    alloc: Global,
+    word: BadWord,
+    text: Option<&str>,
+) -> Result<GraphName, RequestFault>
+    ensures { Reads result (need (option_and_then graph_whole (option_map (λ t. t.now) text.entry)) word Ok) }
 {
     let Some(text) = text else {
-        return Err(RequestFault::Bad(BadWord::Attrs));
+        return Err(RequestFault::Bad(word));
     };
     match whole_graph(alloc, text.as_bytes()) {
         Ok(graph) => Ok(graph),
-        Err(ReadFault::Malformed) => Err(RequestFault::Bad(BadWord::Attrs)),
+        Err(ReadFault::Malformed) => Err(RequestFault::Bad(word)),
         Err(ReadFault::Memory) => Err(RequestFault::Memory),
     }
 }
@@ -54,7 +60,7 @@ fn text_in(alloc: Global, name: &str, members: &[(Txt, Json)]) -> Result<Txt, Re
 fn graph_in(alloc: Global, name: &str, members: &[(Txt, Json)]) -> Result<GraphName, RequestFault>
     ensures { Reads result (graph_in name.now members.now) }
 {
-    graph_from(alloc, text_of(member(members, name)))
+    graph_from(alloc, BadWord::Attrs, text_of(member(members, name)))
 }
 
 fn int_of(json: Option<&Json>) -> Option<i64>
@@ -74,19 +80,6 @@ fn number_in(name: &str, members: &[(Txt, Json)]) -> Result<i64, RequestFault>
 }
 
 // ---- values
-
-// A number or a text, as it is given.
-fn given_of(alloc: Global, json: &Json) -> Result<Option<Given>, AllocError>
-    ensures { IfOk result (λ given. given ≡ given_of json.now) }
-{
-    if let Some(number) = json.as_int() {
-        return Ok(Some(Given::Int(number)));
-    }
-    match json.as_text() {
-        Some(text) => Ok(Some(Given::Text(Txt::from_text(alloc, text)?))),
-        None => Ok(None),
-    }
-}
 
 fn given_at(alloc: Global, json: Option<&Json>) -> Result<Option<Given>, AllocError>
     ensures { IfOk result (λ given. given ≡ option_and_then given_of (option_map (λ j. j.now) json.entry)) }
@@ -363,8 +356,12 @@ pub fn said(alloc: Global, verb: Verb, json: &Json) -> Result<Op, RequestFault>
 {
     match verb {
         Verb::CreateTenant => Ok(Op::CreateTenant(name_from(alloc, json.as_text())?)),
-        Verb::CreateGraph => Ok(Op::CreateGraph(graph_from(alloc, json.as_text())?)),
-        Verb::DropGraph => Ok(Op::DropGraph(graph_from(alloc, json.as_text())?)),
+        Verb::CreateGraph => Ok(Op::CreateGraph(graph_from(
+            alloc,
+            BadWord::Attrs,
+            json.as_text(),
+        )?)),
+        Verb::DropGraph => Ok(Op::DropGraph(graph_from(alloc, BadWord::Attrs, json.as_text())?)),
         Verb::CreateVertexType => create_vertex_type(alloc, json),
         Verb::CreateEdgeType => create_edge_type(alloc, json),
         Verb::Put => put(alloc, json),

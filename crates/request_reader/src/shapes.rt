@@ -1,13 +1,13 @@
 //! The shape of a request's objects.
 ghost use Rattle.std.specs.Prelude.{◌≡◌, map, option_map};
 ghost use Rattle.std.specs.List.{list_all};
-ghost use Rattle.request_reader.specs.Forms.{form_in, verb_in, verb_of, form_of, attribute_form, fields_in, items_in, is_given, fits, member_fits, members_fit, is_known, has_form, part_fits, parts_fit, body_fits};
+ghost use Rattle.request_reader.specs.Forms.{form_in, verb_in, verb_of, form_of, attribute_form, is_given, fits, member_fits, members_fit, is_known, has_form, part_fits, parts_fit, body_fits};
 
 use crate::forms::{
     ADD, ATTRIBUTE, DROP, END, LINK, Member, PUT, Place, SET, TYPE, UNLINK, VERBS, Verb,
 };
 use a1_base::Txt;
-use a1_json::{Json, member};
+use a1_json::{Json, fields_in, items_in, member};
 
 // ---- the tables
 
@@ -43,28 +43,6 @@ pub fn form_of(verb: Verb) -> &'static [Member]
         Verb::Drop => DROP,
         Verb::Link => LINK,
         Verb::Unlink => UNLINK,
-    }
-}
-
-// ---- what is there
-
-/// The members, or none where it is no object.
-pub fn fields_in(json: &Json) -> &[(Txt, Json)]
-    ensures { result.now ≡ fields_in json.now }
-{
-    match json.as_members() {
-        Some(members) => members,
-        None => &[],
-    }
-}
-
-/// The items, or none where it is no list.
-pub fn items_in(json: &Json) -> &[Json]
-    ensures { result.now ≡ items_in json.now }
-{
-    match json.as_list() {
-        Some(items) => items,
-        None => &[],
     }
 }
 

@@ -2,6 +2,7 @@
 use crate::{BadWord, End, Op, Request, RequestFault, read};
 use a1_base::Txt;
 use a1_value::Given;
+use a1ql_reader::Select;
 use std::alloc::{AllocError, Global};
 use std::test::Fail;
 use type_schema::{Attr, GraphName, TypeSchema};
@@ -11,22 +12,8 @@ use type_schema::{Attr, GraphName, TypeSchema};
 // The word of each line. It has faults of later words, too.
 const BAD: &[(&str, BadWord)] = &[
     (r#"hello"#, BadWord::NotJson),
-    (r#"{"ask":1.5,"graph":"sys/names"#, BadWord::NotJson),
-    (r#"{"ask":1.5,"graph":"sys/names"}"#, BadWord::NotWhole),
-    (r#"{"do":[],"ask":{"_type":"n"}}"#, BadWord::NotBuilt),
-    (r#"{"after":{"line":1,"session":1}}"#, BadWord::NotBuilt),
-    (
-        r#"{"ask":{"_type":"name","id":7},"graph":"sys/names"}"#,
-        BadWord::NotBuilt,
-    ),
-    (
-        r#"{"ask":{"_type":"name","id":"ann"},"graph":"t/g"}"#,
-        BadWord::NotBuilt,
-    ),
-    (
-        r#"{"ask":{"_type":"name","id":"ann","x":1},"graph":"sys/names"}"#,
-        BadWord::NotBuilt,
-    ),
+    (r#"{"ask":1.5,"graph":"t/g"#, BadWord::NotJson),
+    (r#"{"after":[1,1.5]}"#, BadWord::NotWhole),
     ("7", BadWord::Shape),
     ("{}", BadWord::Shape),
     (r#"{"do":[]}"#, BadWord::Shape),
@@ -72,6 +59,51 @@ const BAD: &[(&str, BadWord)] = &[
     (
         r#"{"do":[{"create_edge_type":{"graph":"T","type":"e","attrs":[{"name":"a"}]}}]}"#,
         BadWord::Shape,
+    ),
+    (r#"{"ask":{"_type":"N"}}"#, BadWord::Shape),
+    (r#"{"graph":"t"}"#, BadWord::Shape),
+    (r#"{"ask":{"_type":"N"},"graph":7}"#, BadWord::Shape),
+    (r#"{"ask":{"_type":"N"},"graphs":"t"}"#, BadWord::Shape),
+    (r#"{"ask":{"_type":"N"},"graph":"t","x":1}"#, BadWord::Shape),
+    (
+        r#"{"ask":{"_type":"N","_next":{}},"graph":"t"}"#,
+        BadWord::Shape,
+    ),
+    (r#"{"ask":{"id":1},"graph":"t"}"#, BadWord::Shape),
+    (r#"{"ask":[],"graph":"t"}"#, BadWord::Shape),
+    (
+        r#"{"do":[{"create_tenant":"T"}],"ask":{"_type":"N"}}"#,
+        BadWord::Shape,
+    ),
+    (
+        r#"{"do":[{"create_tenant":"T"}],"after":[1,1]}"#,
+        BadWord::Shape,
+    ),
+    (
+        r#"{"ask":{"_type":"N"},"graph":"t","after":[1,1]}"#,
+        BadWord::Shape,
+    ),
+    (r#"{"after":1}"#, BadWord::Shape),
+    (r#"{"after":"1,1"}"#, BadWord::Shape),
+    (r#"{"after":{"line":1,"session":1}}"#, BadWord::Shape),
+    (r#"{"after":[]}"#, BadWord::Shape),
+    (r#"{"after":[1]}"#, BadWord::Shape),
+    (r#"{"after":[1,1,1]}"#, BadWord::Shape),
+    (r#"{"after":[1,1],"x":1}"#, BadWord::Shape),
+    (r#"{"after":["1",1]}"#, BadWord::Shape),
+    (r#"{"after":[1,"1"]}"#, BadWord::Shape),
+    (r#"{"after":[0,1]}"#, BadWord::Shape),
+    (r#"{"after":[-1,1]}"#, BadWord::Shape),
+    (r#"{"after":[33,1]}"#, BadWord::Shape),
+    (r#"{"after":[1,0]}"#, BadWord::Shape),
+    (r#"{"after":[1,-1]}"#, BadWord::Shape),
+    (r#"{"after":[1,4294967296]}"#, BadWord::Shape),
+    (r#"{"ask":{"_type":"n"},"graph":"t"}"#, BadWord::Name),
+    (r#"{"ask":{"_type":"n"},"graph":"t/G"}"#, BadWord::Name),
+    (r#"{"ask":{"_type":"N"},"graph":"t/g"}"#, BadWord::Name),
+    (
+        r#"{"ask":{"_type":"n","_match":[{"_in_edge":{"_type":"e","_vertex":{"_type":""}}}]},"graph":"t/g"}"#,
+        BadWord::Name,
     ),
     (r#"{"do":[{"create_tenant":"T"}]}"#, BadWord::Name),
     (r#"{"do":[{"create_graph":"t"}]}"#, BadWord::Name),
@@ -256,10 +288,15 @@ fn told(alloc: Global, op: &Op) -> Result<String, AllocError> {
     }
 }
 
-// A line's request: its operations, a line for each, or the name that it asks for.
+// A line's request: what it asks for, or its operations, a line for each.
 fn asked(alloc: Global, line: &str) -> Result<String, Fail> {
     match read(alloc, line.as_bytes())? {
-        Request::Name(name) => Ok(format!(in alloc; "name {}", name.as_text())?),
+        Request::Ask(ask) => {
+            let of = kind(alloc, &ask.graph, &ask.pattern.kind)?;
+            let select = &ask.pattern.select;
+            Ok(format!(in alloc; "ask {of} {}", matches!(select, Select::Count))?)
+        }
+        Request::After { session, line } => Ok(format!(in alloc; "after {session} {line}")?),
         Request::Do(ops) => {
             let mut text = String::new(alloc);
             for op in ops.as_slice() {
@@ -275,8 +312,14 @@ fn asked(alloc: Global, line: &str) -> Result<String, Fail> {
 const READ: &[(&str, &str)] = &[
     (
         r#" {"graph":"sys/names", "ask":{"id":"ann","_type":"name"}} "#,
-        "name ann",
+        "ask sys/names name false",
     ),
+    (
+        r#"{"ask":{"_type":"n","_select":["_count(*)"]},"graph":"t/g"}"#,
+        "ask t/g n true",
+    ),
+    (r#"{"after":[1,4294967295]}"#, "after 1 4294967295"),
+    (r#"{"after":7, "\u0061fter": [32, 1]}"#, "after 32 1"),
     (
         r#"{"do":[{"create_tenant":"t"},{"create_graph":"t/g"},{"drop_graph":"t/g"}]}"#,
         "tenant t\ngraph t g\ndrop graph t g\n",

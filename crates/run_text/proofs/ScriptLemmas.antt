@@ -1,9 +1,9 @@
 -- Lines of a script.
-use Rattle.std.proofs.Common.{◌≡◌, ◌<◌, ◌≤◌, ◌+◌, ◌-◌, ◌*◌, ℕ, List, [], ◌∷◌, ◌++◌, length, map, Bool, true, false, Result, Ok, Err, Some, None, Option, refl, sym, ap, ◌∙◌, append_assoc, append-nil, arith, if◌then◌else◌}
+use Rattle.std.proofs.Common.{◌≡◌, ◌<◌, ◌≤◌, ◌+◌, ◌-◌, ◌*◌, ℕ, List, [], ◌∷◌, ◌++◌, length, map, Bool, true, false, Some, None, Option, refl, sym, ap, ◌∙◌, append_assoc, append-nil, arith, if◌then◌else◌}
 use Rattle.std.specs.Prelude.{◌==◌, ◌&&◌, nat_lt, option_and_then}
 use Rattle.std.proofs.lemmas.Bool.Decides.{nat_tests}
-use Rattle.run_text.specs.Script.{onto, lines_in, is_digit, number_on, numbered, of_session, with_entry, requests_of, with_requests, sessions_of}
-use Rattle.run_text.specs.Reading.{in_first, with_entries}
+use Rattle.run_text.specs.Script.{onto, lines_in, is_digit, number_on, numbered, of_session, requests_of, with_requests, sessions_of}
+use Rattle.run_text.specs.Reading.{in_first}
 
 pub onto_onto : (front : List ℕ) (b : ℕ) (lines : List (List ℕ)) → onto front (onto (b ∷ []) lines) ≡ onto (front ++ b ∷ []) lines
 onto_onto front b [] = refl
@@ -22,11 +22,7 @@ lines_begin (b ∷ bs) h = by (nothing_onto b (lines_in bs)) (b == 10)
     by k true = refl
     by k false = k
 
-pub entry_behind : (before : List (ℕ × List ℕ)) (n : ℕ) (e : ℕ × List ℕ) (rest : Result (List (ℕ × List ℕ)) ℕ) → with_entries before (with_entry n (Some e) rest) ≡ with_entries (before ++ e ∷ []) rest
-entry_behind before n e (Ok entries) = ap Ok (sym (append_assoc before (e ∷ []) entries))
-entry_behind before n e (Err line) = refl
-
-requests_first : (rs : List (List ℕ)) → requests_of (map in_first rs) 1 ≡ rs
+pub requests_first : (rs : List (List ℕ)) → requests_of (map in_first rs) 1 ≡ rs
 requests_first [] = refl
 requests_first (r ∷ rs) = ap (λ xs. r ∷ xs) (requests_first rs)
 

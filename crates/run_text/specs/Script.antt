@@ -1,7 +1,8 @@
 -- A script: its lines, and the sessions that they make up.
-use Rattle.std.specs.Prelude.{◌≡◌, ℕ, ◌+◌, ◌-◌, ◌*◌, List, [], ◌∷◌, ◌++◌, length, sum_by, Bool, ◌==◌, ◌&&◌, nat_lt, nat_le, if◌then◌else◌, filter, map, Result, Ok, Err, Option, Some, None, option_and_then, ⊤}
+use Rattle.std.specs.Prelude.{◌≡◌, ℕ, ◌+◌, ◌-◌, ◌*◌, List, [], ◌∷◌, ◌++◌, length, sum_by, Bool, true, ◌==◌, ◌&&◌, nat_lt, nat_le, if◌then◌else◌, filter, map, Result, Ok, Err, Option, Some, None, option_and_then, ⊤}
 use Rattle.std.specs.List.{flat_map, list_any}
 use Rattle.a1_base.specs.declared.limits.TheConstants.{SCRIPT_LIMIT, LINE_LIMIT}
+use Rattle.request_reader.specs.Request.{names_line}
 use Rattle.answer_text.specs.declared.transcript.Line as whole
 use Rattle.answer_text.specs.declared.transcript.Transcript.{Transcript}
 use Rattle.run_text.specs.declared.script.ScriptFault.{ScriptFault}
@@ -50,26 +51,41 @@ entry_in line = if nat_le (length line) LINE_LIMIT then option_and_then of_sessi
 
 -- ---- all lines
 
--- an entry, or none, before those of the rest
-abbrev pub with_entry : ℕ → Option (ℕ × List ℕ) → Result (List (ℕ × List ℕ)) ℕ → Result (List (ℕ × List ℕ)) ℕ
-with_entry n None rest = Err n
-with_entry n (Some entry) (Ok entries) = Ok (entry ∷ entries)
-with_entry n (Some entry) (Err line) = Err line
+-- lines, each with its session and its request
+abbrev pub Entries : Type 0
+Entries = List (ℕ × List ℕ)
 
--- a line before the rest; one of no bytes is skipped
-abbrev pub with_line : ℕ → List ℕ → Result (List (ℕ × List ℕ)) ℕ → Result (List (ℕ × List ℕ)) ℕ
-with_line n [] rest = rest
-with_line n (b ∷ bs) rest = with_entry n (entry_in (b ∷ bs)) rest
+abbrev pub requests_of : Entries → ℕ → List (List ℕ)
+requests_of entries n = map (λ e. e.1) (filter (λ e. e.0 == n) entries)
 
--- the entries of the lines from line n on, or the number of the first that breaks the grammar
-abbrev pub entries_from : ℕ → List (List ℕ) → Result (List (ℕ × List ℕ)) ℕ
-entries_from n [] = Ok []
-entries_from n (line ∷ lines) = with_line n line (entries_from (n + 1) lines)
+-- these entries have the line of the session that is named, if one is
+abbrev pub stands_in : Entries → Option (ℕ × ℕ) → Bool
+stands_in before None = true
+stands_in before (Some l) = nat_le l.1 (length (requests_of before l.0))
+
+abbrev pub if_told : Entries → ℕ × List ℕ → Option (ℕ × List ℕ)
+if_told before e = if stands_in before (names_line e.1) then Some e else None
+
+-- an entry behind others; a line that its request names is one of them
+abbrev pub entry_behind : Entries → List ℕ → Option (ℕ × List ℕ)
+entry_behind before line = option_and_then (if_told before) (entry_in line)
+
+-- what follows behind an entry, or the number of the line that has none
+abbrev pub with_entry : ℕ → Entries → Option (ℕ × List ℕ) → (Entries → Result Entries ℕ) → Result Entries ℕ
+with_entry n before None rest = Err n
+with_entry n before (Some entry) rest = rest (before ++ entry ∷ [])
+
+-- the same behind a line; one of no bytes is skipped
+abbrev pub with_line : ℕ → Entries → List ℕ → (Entries → Result Entries ℕ) → Result Entries ℕ
+with_line n before [] rest = rest before
+with_line n before (b ∷ bs) rest = with_entry n before (entry_behind before (b ∷ bs)) rest
+
+-- these entries with those of the lines from line n on, or the number of the first line that breaks the grammar
+abbrev pub entries_from : ℕ → Entries → List (List ℕ) → Result Entries ℕ
+entries_from n before [] = Ok before
+entries_from n before (line ∷ lines) = with_line n before line (λ entries. entries_from (n + 1) entries lines)
 
 -- ---- sessions
-
-abbrev pub requests_of : List (ℕ × List ℕ) → ℕ → List (List ℕ)
-requests_of entries n = map (λ e. e.1) (filter (λ e. e.0 == n) entries)
 
 -- a session, where it has a request
 abbrev pub with_requests : ℕ → List (List ℕ) → List (ℕ × List (List ℕ))
@@ -77,16 +93,16 @@ with_requests n [] = []
 with_requests n (r ∷ rs) = (n, r ∷ rs) ∷ []
 
 -- the sessions that have requests, by rising number, each with its requests in order
-abbrev pub sessions_of : List (ℕ × List ℕ) → List (ℕ × List (List ℕ))
+abbrev pub sessions_of : Entries → List (ℕ × List (List ℕ))
 sessions_of entries = flat_map (λ n. with_requests n (requests_of entries n)) session_numbers
 
-abbrev pub sessions_in : Result (List (ℕ × List ℕ)) ℕ → Result (List (ℕ × List (List ℕ))) ℕ
+abbrev pub sessions_in : Result Entries ℕ → Result (List (ℕ × List (List ℕ))) ℕ
 sessions_in (Ok entries) = Ok (sessions_of entries)
 sessions_in (Err line) = Err line
 
 -- the sessions of a script, or the number of its first line that breaks the grammar; 0 where it is too long
 unfoldable pub script_of : List ℕ → Result (List (ℕ × List (List ℕ))) ℕ
-script_of bytes = if nat_lt SCRIPT_LIMIT (length bytes) then Err 0 else sessions_in (entries_from 1 (lines_in bytes))
+script_of bytes = if nat_lt SCRIPT_LIMIT (length bytes) then Err 0 else sessions_in (entries_from 1 [] (lines_in bytes))
 
 abbrev pub request_count : List (ℕ × List (List ℕ)) → ℕ
 request_count sessions = sum_by (λ t. length t.1) sessions

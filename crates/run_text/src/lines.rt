@@ -1,12 +1,14 @@
 //! The lines of a script, one after another.
-ghost use Rattle.std.specs.Prelude.{◌≡◌, ◌<◌, ◌≤◌, ◌+◌, ◌∷◌, Ok, List, ℕ, Result, length, take, drop, map, IfOk, OnOk, IfErr, option_map, option_and_then};
-ghost use Rattle.run_text.specs.Script.{lines_in, numbered, of_session, entry_in, with_line, entries_from};
+ghost use Rattle.std.specs.Prelude.{◌≡◌, ◌<◌, ◌≤◌, ◌+◌, [], ◌∷◌, Ok, List, ℕ, length, take, drop, map, IfOk, OnOk, IfErr, option_map, option_and_then};
 ghost use Rattle.a1_base.specs.declared.limits.TheConstants.{SCRIPT_LIMIT};
-ghost use Rattle.run_text.specs.Reading.{in_first, with_entries, IsEntriesFault};
+ghost use Rattle.request_reader.specs.Request.{names_line};
+ghost use Rattle.run_text.specs.Script.{lines_in, numbered, of_session, entry_in, requests_of, stands_in, entries_from};
+ghost use Rattle.run_text.specs.Reading.{in_first, IsEntriesFault};
 
 use crate::ScriptFault;
 use a1_base::{Bin, LINE_LIMIT};
-use std::alloc::Global;
+use request_reader::names_line;
+use std::alloc::{AllocError, Global};
 
 // How long the first line is.
 #[tactic(auto, using(crate::proofs::ScriptLemmas::onto_onto))]
@@ -47,20 +49,38 @@ fn request_in(line: &[u8]) -> Option<&[u8]>
     }
 }
 
+// How many lines of a session there are, where these are the requests of session 1.
+#[tactic(auto, using(crate::proofs::NamingLemmas::counted))]
+fn line_count(requests: &[Bin], session: u32) -> usize
+    ensures { result ≡ length (requests_of (map in_first requests.now) session) }
+{
+    if session == 1 { requests.len() } else { 0 }
+}
+
+// Whether the line that a request names, if it names one, is one of these of session 1.
+fn is_told(alloc: Global, requests: &[Bin], request: &[u8]) -> Result<bool, AllocError>
+    ensures { IfOk result (λ told. told ≡ stands_in (map in_first requests.now) (names_line request.now)) }
+{
+    match names_line(alloc, request) {
+        Ok(Some((session, line))) => Ok(line as usize <= line_count(requests, session)),
+        Ok(None) => Ok(true),
+        Err(_) => Err(AllocError),
+    }
+}
+
 // Adds the request of a line.
-#[tactic(auto, using(crate::proofs::ScriptLemmas::entry_behind))]
 fn add_line(
     alloc: Global,
     requests: &mut Vec<Bin>,
     number: u64,
     line: &[u8],
 ) -> Result<(), ScriptFault>
-    ensures ok { OnOk result ((rest : Result (List (ℕ × List ℕ)) ℕ) →
-        with_entries (map in_first requests.old.items) (with_line number line.now rest)
-        ≡ with_entries (map in_first requests.new.items) rest) }
+    ensures ok { OnOk result ((lines : List (List ℕ)) →
+        entries_from number (map in_first requests.old.items) (line.now ∷ lines)
+        ≡ entries_from (number + 1) (map in_first requests.new.items) lines) }
     ensures one { length requests.new.items ≤ length requests.old.items + 1 }
-    ensures fault { IfErr result (λ e. (rest : Result (List (ℕ × List ℕ)) ℕ) →
-        IsEntriesFault e (with_line number line.now rest)) }
+    ensures fault { IfErr result (λ e. (lines : List (List ℕ)) →
+        IsEntriesFault e (entries_from number (map in_first requests.old.items) (line.now ∷ lines))) }
 {
     if line.is_empty() {
         return Ok(());
@@ -68,6 +88,9 @@ fn add_line(
     let Some(request) = request_in(line) else {
         return Err(ScriptFault::Line(number));
     };
+    if !is_told(alloc, requests, request)? {
+        return Err(ScriptFault::Line(number));
+    }
     let request = Bin::from_slice(alloc, request)?;
     match requests.push(request) {
         Ok(()) => Ok(()),
@@ -78,9 +101,9 @@ fn add_line(
 // The requests of the lines of a script.
 pub fn read_requests(alloc: Global, bytes: &[u8]) -> Result<Vec<Bin>, ScriptFault>
     requires { length bytes.now ≤ SCRIPT_LIMIT }
-    ensures ok { IfOk result (λ requests. entries_from 1 (lines_in bytes.now) ≡ Ok (map in_first requests.items)) }
+    ensures ok { IfOk result (λ requests. entries_from 1 [] (lines_in bytes.now) ≡ Ok (map in_first requests.items)) }
     ensures few { IfOk result (λ requests. length requests.items ≤ length bytes.now) }
-    ensures fault { IfErr result (λ e. IsEntriesFault e (entries_from 1 (lines_in bytes.now))) }
+    ensures fault { IfErr result (λ e. IsEntriesFault e (entries_from 1 [] (lines_in bytes.now))) }
 {
     let mut requests = Vec::new(alloc);
     let mut at = 0;

@@ -1,5 +1,6 @@
 //! Scripts.
-ghost use Rattle.std.specs.Prelude.{◌≡◌, ◌≤◌, length, IfOk, map};
+ghost use Rattle.std.specs.Prelude.{◌≡◌, ◌≤◌, All, length, IfOk, map};
+ghost use Rattle.answer_text.specs.Transcript.{NamesBefore};
 ghost use Rattle.run_text.specs.Script.{script_of, session_numbers, request_count, ReadsAsScript};
 
 use crate::lines::read_requests;
@@ -51,12 +52,14 @@ impl From<AllocError> for ScriptFault {
 }
 
 /// Reads a script of at most `SCRIPT_LIMIT` bytes: lines that end with LF, each a session number in decimal, a blank
-/// and a request; lines of no bytes are skipped and counted.
-#[tactic(auto, using(crate::proofs::ScriptLemmas::first_alone), unfolding(crate::specs::Script::script_of))]
+/// and a request; lines of no bytes are skipped and counted. A request that reads as `after` names a line that stands
+/// before it.
+#[tactic(auto, using(crate::proofs::ScriptLemmas::first_alone, crate::proofs::NamingLemmas::named_first), unfolding(crate::specs::Script::script_of))]
 pub fn read(alloc: Global, bytes: &[u8]) -> Result<Script, ScriptFault>
     ensures script { ReadsAsScript result (script_of bytes.now) }
     ensures few { IfOk result (λ script. request_count script ≤ length bytes.now) }
     ensures sessions { IfOk result (λ script. length script ≤ length session_numbers) }
+    ensures named { IfOk result (λ script. All (λ t. NamesBefore t.0 t.1) script) }
 {
     if bytes.len() > SCRIPT_LIMIT {
         return Err(ScriptFault::Line(0));

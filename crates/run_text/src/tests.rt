@@ -1,5 +1,5 @@
 //! A script and a transcript, with ample memory.
-use crate::{read, transcript};
+use crate::{ScriptFault, read, transcript};
 use a1_base::Bin;
 use answer_text::{Line, Reply, Transcript};
 use sqlite_items::Items;
@@ -17,6 +17,33 @@ fn reads_the_requests_of_a_script(rt: HostRuntime) -> Result<(), Fail> {
     assert_eq!(rt; requests[1].as_slice(), b"".as_slice());
     assert_eq!(rt; requests[2].as_slice(), b"y z".as_slice());
     Ok(())
+}
+
+// Scripts, and the first line of each that breaks the grammar, where there is one.
+const NAMED: &[(&str, Option<u64>)] = &[
+    ("1 {\"after\":[1,1]}", Some(1)),
+    ("1 x\n1 {\"after\":[1,1]}", None),
+    ("1 x\n1 {\"after\":[1,2]}", Some(2)),
+    ("1 x\n\n\n1 {\"after\":[1,2]}", Some(4)),
+    ("1 x\n\n1 \n\n1 {\"after\":[1,2]}", None),
+    ("1 x\n1 {\"after\":[1,4294967295]}\n2 x", Some(2)),
+    ("1 x\n1 { \"after\" : 0, \"after\" : [1, 2] }", Some(2)),
+    ("1 x\n1 {\"after\":[2,1]}", Some(2)),
+    ("1 {\"after\":[0,1]}\n1 {\"after\":[33,1]}", None),
+    ("1 {\"after\":[1,0]}\n1 {\"after\":[1,4294967296]}", None),
+    ("1 {\"after\":[1,9],\"x\":1}", None),
+];
+
+#[test]
+fn names_lines_that_stand_before(rt: HostRuntime) {
+    for (script, want) in NAMED {
+        let line = match read(rt.alloc(), script.as_bytes()) {
+            Ok(_) => None,
+            Err(ScriptFault::Line(line)) => Some(line),
+            Err(ScriptFault::Memory) => Some(0),
+        };
+        assert_eq!(rt; line, *want, "at {script}");
+    }
 }
 
 // The transcript of a session that was answered twice.

@@ -11,12 +11,12 @@ use Rattle.std.proofs.lemmas.Grind.{flat_map-append}
 use Rattle.std.proofs.lemmas.Bool.Decides.{nat_tests}
 use Rattle.type_schema.specs.declared.refusal.Refusal.{Refusal}
 use Rattle.type_schema.specs.Graph.{Graph}
+use Rattle.a1ql_reader.specs.declared.ask.Answer.TheVariants as answer
+use Rattle.a1ql_plan.specs.Answer.{answer}
 use Rattle.request_reader.specs.Operations.{Reached, effect}
-use Rattle.request_reader.specs.Answers.{answer}
-use Rattle.request_reader.specs.declared.answer.Answer.TheVariants as answer
 use Rattle.request_reader.specs.declared.request.BadWord.{BadWord}
 use Rattle.request_reader.specs.declared.request.Request.{Request}
-use Rattle.request_reader.specs.declared.request.Request.TheVariants.{Do, Name}
+use Rattle.request_reader.specs.declared.request.Request.TheVariants.{Do, Ask, After}
 use Rattle.answer_text.specs.Reply.{ok_stamp, printed}
 use Rattle.answer_text.specs.Transcript.{asked, Commit, commit_in, commit_of, placed, by_stamp, commits_up_to, kept, replayed, graph_at, ok_stamps}
 use Rattle.answer_text.specs.Legal.{ComesAfter, IsReplyTo}
@@ -125,10 +125,14 @@ module _ (base : ℕ) (graph : Graph) (clock : ℕ) (after : Graph) (later : ℕ
     right = λ graphs e. let down : stamp - 1 ≡ clock = omega arith in rw (down, e) (reached_ok (effect graph ops) after h.0);
   }
   adds (Ok (Do ops)) (reply.Refused at refusal) low h = still _ _ h.2 refl (omega arith) refl (omega arith, λ s q. omega arith) (λ graphs e. rw (h.1, e) h.0)
-  adds (Ok (Name name)) (reply.Rows at rows) low h = still _ _ h.2 refl (omega arith) refl (omega arith, λ s q. omega arith) (λ graphs e. rw (h.1, e) h.0)
+  adds (Ok (Ask ask)) (reply.Rows at rows) low h = still _ _ h.2 refl (omega arith) refl (omega arith, λ s q. omega arith) (λ graphs e. rw (h.1, e) h.0)
+  adds (Ok (Ask ask)) (reply.Count at count) low h = still _ _ h.2 refl (omega arith) refl (omega arith, λ s q. omega arith) (λ graphs e. rw (h.1, e) h.0)
+  adds (Ok (Ask ask)) (reply.Refused at refusal) low h = still _ _ h.2 refl (omega arith) refl (omega arith, λ s q. omega arith) (λ graphs e. rw (h.1, e) h.0)
+  adds (Ok (After session line)) (reply.Told named) low h = still _ _ h.1 refl tt refl tt (λ graphs e. h.0)
   adds (Err word) (reply.Bad printed) low h = still _ _ h.1 refl tt refl tt (λ graphs e. h.0)
   adds (Ok (Do ops)) reply.Memory low h = still _ _ h refl tt refl tt (λ graphs e. tt)
-  adds (Ok (Name name)) reply.Memory low h = still _ _ h refl tt refl tt (λ graphs e. tt)
+  adds (Ok (Ask ask)) reply.Memory low h = still _ _ h refl tt refl tt (λ graphs e. tt)
+  adds (Ok (After session line)) reply.Memory low h = still _ _ h refl tt refl tt (λ graphs e. tt)
   adds (Err word) reply.Memory low h = still _ _ h refl tt refl tt (λ graphs e. tt)
   adds r p low h = absurd h
 
@@ -155,8 +159,14 @@ all_more P xs (Some w) h p = All-push P xs w h p
 pub fewer : (base : ℕ) (P Q : ℕ → Type 0) → ((s : ℕ) → Q s → P s) → (p : Reply) → ComesAfter base P p → ComesAfter base Q p
 fewer base P Q f (reply.Ok stamp) h = λ s q. h s (f s q)
 fewer base P Q f (reply.Rows at rows) h = (h.0, λ s q. h.1 s (f s q))
+fewer base P Q f (reply.Count at count) h = (h.0, λ s q. h.1 s (f s q))
 fewer base P Q f (reply.Refused at refusal) h = (h.0, λ s q. h.1 s (f s q))
+fewer base P Q f (reply.Changed object seen now) h = (h.0, λ s q. h.1 s (f s q))
+fewer base P Q f (reply.Held object by) h = tt
+fewer base P Q f (reply.Told line) h = tt
 fewer base P Q f (reply.Bad word) h = tt
+fewer base P Q f reply.SpentNode h = tt
+fewer base P Q f reply.SpentStamps h = tt
 fewer base P Q f reply.Memory h = tt
 
 -- ---- answers
@@ -166,7 +176,9 @@ reply_stays : (g h : ℕ → Graph) (clock : ℕ) → ((s : ℕ) → s ≤ clock
     → IsReplyTo g r p → IsReplyTo h r p
 reply_stays g h clock same (Ok (Do ops)) (reply.Ok stamp) up = subst (λ x. IsOk (effect x ops)) (same (stamp - 1) (omega (arith, up)))
 reply_stays g h clock same (Ok (Do ops)) (reply.Refused at refusal) up = subst (λ x. effect x ops ≡ Err refusal) (same at up)
-reply_stays g h clock same (Ok (Name name)) (reply.Rows at rows) up = subst (λ x. answer x name ≡ answer.Rows rows) (same at up)
+reply_stays g h clock same (Ok (Ask ask)) (reply.Rows at rows) up = subst (λ x. answer x ask ≡ Ok (answer.Rows rows)) (same at up)
+reply_stays g h clock same (Ok (Ask ask)) (reply.Count at count) up = subst (λ x. answer x ask ≡ Ok (answer.Count count)) (same at up)
+reply_stays g h clock same (Ok (Ask ask)) (reply.Refused at refusal) up = subst (λ x. answer x ask ≡ Err refusal) (same at up)
 reply_stays g h clock same r p up = λ k. k
 
 -- ---- one more line
@@ -245,9 +257,13 @@ none_served start base = record { now = refl; low = omega arith; up_to = All-nil
 pub step_clock : (graph : Graph) (clock : ℕ) (r : Result Request BadWord) (p : Reply) (after : Graph) (later : ℕ) → Step graph clock r p after later → later ≤ clock + 1
 step_clock graph clock (Ok (Do ops)) (reply.Ok stamp) after later h = omega (arith, h.2)
 step_clock graph clock (Ok (Do ops)) (reply.Refused at refusal) after later h = omega (arith, h.2.1)
-step_clock graph clock (Ok (Name name)) (reply.Rows at rows) after later h = omega (arith, h.2.1)
+step_clock graph clock (Ok (Ask ask)) (reply.Rows at rows) after later h = omega (arith, h.2.1)
+step_clock graph clock (Ok (Ask ask)) (reply.Count at count) after later h = omega (arith, h.2.1)
+step_clock graph clock (Ok (Ask ask)) (reply.Refused at refusal) after later h = omega (arith, h.2.1)
+step_clock graph clock (Ok (After session line)) (reply.Told named) after later h = omega (arith, h.1.1)
 step_clock graph clock (Err word) (reply.Bad printed) after later h = omega (arith, h.1.1)
 step_clock graph clock (Ok (Do ops)) reply.Memory after later h = omega (arith, h.1)
-step_clock graph clock (Ok (Name name)) reply.Memory after later h = omega (arith, h.1)
+step_clock graph clock (Ok (Ask ask)) reply.Memory after later h = omega (arith, h.1)
+step_clock graph clock (Ok (After session line)) reply.Memory after later h = omega (arith, h.1)
 step_clock graph clock (Err word) reply.Memory after later h = omega (arith, h.1)
 step_clock graph clock r p after later h = absurd h

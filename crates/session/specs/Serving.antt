@@ -3,12 +3,12 @@ use Rattle.std.specs.Prelude.{◌≡◌, ℕ, ◌+◌, ◌<◌, ◌≤◌, List,
 use Rattle.std.specs.List.{All, IsDistinct}
 use Rattle.type_schema.specs.declared.refusal.Refusal.{Refusal}
 use Rattle.type_schema.specs.Graph.{Graph}
+use Rattle.a1ql_reader.specs.declared.ask.Answer.TheVariants as answer
+use Rattle.a1ql_plan.specs.Answer.{answer}
 use Rattle.request_reader.specs.Operations.{Reached, effect}
-use Rattle.request_reader.specs.Answers.{answer}
-use Rattle.request_reader.specs.declared.answer.Answer.TheVariants as answer
 use Rattle.request_reader.specs.declared.request.BadWord.{BadWord}
 use Rattle.request_reader.specs.declared.request.Request.{Request}
-use Rattle.request_reader.specs.declared.request.Request.TheVariants.{Do, Name}
+use Rattle.request_reader.specs.declared.request.Request.TheVariants.{Do, Ask, After}
 use Rattle.answer_text.specs.Reply.{printed}
 use Rattle.answer_text.specs.Transcript.{asked, graph_at, ok_stamps}
 use Rattle.answer_text.specs.Legal.{ComesAfter, IsReplyTo}
@@ -30,8 +30,14 @@ Step graph clock (Ok (Do ops)) (reply.Ok stamp) after later =
     IsReached (effect graph ops) after × (stamp ≡ clock + 1) × (later ≡ clock + 1)
 Step graph clock (Ok (Do ops)) (reply.Refused at refusal) after later =
     (effect graph ops ≡ Err refusal) × (at ≡ clock) × IsSame graph clock after later
-Step graph clock (Ok (Name name)) (reply.Rows at rows) after later =
-    (answer graph name ≡ answer.Rows rows) × (at ≡ clock) × IsSame graph clock after later
+Step graph clock (Ok (Ask ask)) (reply.Rows at rows) after later =
+    (answer graph ask ≡ Ok (answer.Rows rows)) × (at ≡ clock) × IsSame graph clock after later
+Step graph clock (Ok (Ask ask)) (reply.Count at count) after later =
+    (answer graph ask ≡ Ok (answer.Count count)) × (at ≡ clock) × IsSame graph clock after later
+Step graph clock (Ok (Ask ask)) (reply.Refused at refusal) after later =
+    (answer graph ask ≡ Err refusal) × (at ≡ clock) × IsSame graph clock after later
+Step graph clock (Ok (After session line)) (reply.Told named) after later =
+    (named ≡ line) × IsSame graph clock after later
 Step graph clock (Err word) (reply.Bad printed) after later = (printed ≡ word) × IsSame graph clock after later
 Step graph clock request reply.Memory after later = IsSame graph clock after later
 Step graph clock request other after later = ⊥

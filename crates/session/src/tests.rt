@@ -1,13 +1,16 @@
 //! A session that has each form of reply but want of memory.
+ghost use Rattle.std.specs.Prelude.{◌≡◌, ◌≤◌, ℕ, true, Ok};
+ghost use Rattle.request_reader.specs.Request.{request_of};
+ghost use Rattle.request_reader.specs.declared.request.Request.TheVariants.{After};
+ghost use Rattle.answer_text.specs.Transcript.{NamesBefore};
+
 use crate::serve;
 use a1_base::Bin;
-use a1_value::Value;
-use answer_text::Reply;
+use answer_text::text;
 use graph_plain::Plain;
-use request_reader::BadWord;
+use request_reader::{Request, RequestFault, read};
 use std::alloc::{AllocError, Global};
 use std::test::Fail;
-use type_schema::Word;
 
 const PUT_ANN: &str = r#"{"do":[{"put":{"graph":"sys/names","type":"name","v":{"id":"ann"}}}]}"#;
 
@@ -15,41 +18,65 @@ const ASK_ANN: &str = r#"{"ask":{"_type":"name","id":"ann"},"graph":"sys/names"}
 
 const ASK_BOB: &str = r#"{"ask":{"_type":"name","id":"bob"},"graph":"sys/names"}"#;
 
-fn requests_of(alloc: Global, texts: &[&str]) -> Result<Vec<Bin>, AllocError> {
+const COUNT: &str = r#"{"ask":{"_select":["_count(*)"],"_type":"name"},"graph":"sys/names"}"#;
+
+const ASK_AWAY: &str = r#"{"ask":{"_type":"name"},"graph":"sys/away"}"#;
+
+// Requests of session 3 from the stamp 7 on, each with the text of its reply.
+const LINES: [(&str, &str); 8] = [
+    (PUT_ANN, r#"{"ok":8}"#),
+    (ASK_ANN, r#"{"at":8,"rows":[{"id":"ann"}]}"#),
+    (PUT_ANN, r#"{"at":8,"refused":"key_taken"}"#),
+    (ASK_BOB, r#"{"at":8,"rows":[]}"#),
+    (COUNT, r#"{"at":8,"count":1}"#),
+    (ASK_AWAY, r#"{"at":8,"refused":"no_graph"}"#),
+    (r#"{"after":[3,2]}"#, r#"{"told":2}"#),
+    ("hello", r#"{"bad":"not_json"}"#),
+];
+
+fn requests(alloc: Global) -> Result<Vec<Bin>, AllocError> {
     let mut requests = Vec::new(alloc);
-    for text in texts {
-        requests.push(Bin::from_slice(alloc, text.as_bytes())?)?;
+    for line in &LINES {
+        requests.push(Bin::from_slice(alloc, line.0.as_bytes())?)?;
     }
     Ok(requests)
 }
 
-// Whether the reply has just the row of this name, at this stamp.
-fn has_row(reply: &Reply, stamp: u64, name: &str) -> bool {
-    let Reply::Rows { at, rows } = reply else {
-        return false;
-    };
-    let [row] = rows.as_slice() else {
-        return false;
-    };
-    match row.members.as_slice() {
-        [(attribute, Value::Text(text))] => {
-            *at == stamp && attribute.as_text() == "id" && text.as_text() == name
-        }
-        _ => false,
+// Whether the line, which has so many before it, names one of these where it is an `after` of this session.
+fn is_named(alloc: Global, session: u32, before: usize, line: &[u8]) -> bool
+    ensures { result ≡ true → (q n : ℕ) → request_of line.now ≡ Ok (After q n) → q ≡ session → n ≤ before }
+{
+    match read(alloc, line) {
+        Ok(
+            Request::After {
+                session: named,
+                line,
+            },
+        ) => named != session || line as usize <= before,
+        Ok(_) | Err(RequestFault::Bad(_)) => true,
+        Err(RequestFault::Memory) => false,
     }
 }
 
-fn is_key_taken(reply: &Reply, stamp: u64) -> bool {
-    matches!(reply, Reply::Refused { at, refusal }
-        if *at == stamp && refusal.word == Word::KeyTaken && refusal.attr.is_none())
+fn are_named(alloc: Global, session: u32, requests: &[Bin]) -> bool
+    ensures { result ≡ true → NamesBefore session requests.now }
+{
+    let mut before = 0;
+    for request in requests {
+        if !is_named(alloc, session, before, request.as_slice()) {
+            return false;
+        }
+        before += 1;
+    }
+    true
 }
 
 #[test]
 fn serves_each_line(rt: HostRuntime) -> Result<(), Fail> {
     let alloc = rt.alloc();
-    let asked = [PUT_ANN, ASK_ANN, PUT_ANN, ASK_BOB, "hello"];
-    let requests = requests_of(alloc, &asked)?;
-    assert_eq!(rt; requests.len(), 5);
+    let requests = requests(alloc)?;
+    assert_eq!(rt; requests.len(), 8);
+    assert!(rt; are_named(alloc, 3, &requests));
     let mut plain = Plain::opening(alloc)?;
     let mut clock = 7;
     let transcript = serve(alloc, &mut plain, &mut clock, 3, requests)?;
@@ -57,14 +84,10 @@ fn serves_each_line(rt: HostRuntime) -> Result<(), Fail> {
     assert_eq!(rt; clock, 8);
     assert_eq!(rt; transcript.session, 3);
     let lines = transcript.lines.as_slice();
-    assert_eq!(rt; lines.len(), 5);
-    for (line, request) in lines.iter().zip(&asked) {
-        assert_eq!(rt; line.request.as_slice(), request.as_bytes());
+    assert_eq!(rt; lines.len(), 8);
+    for (line, wanted) in lines.iter().zip(&LINES) {
+        assert_eq!(rt; line.request.as_slice(), wanted.0.as_bytes());
+        assert_eq!(rt; text(alloc, &line.reply)?.as_slice(), wanted.1.as_bytes());
     }
-    assert!(rt; matches!(lines[0].reply, Reply::Ok { stamp: 8 }));
-    assert!(rt; has_row(&lines[1].reply, 8, "ann"));
-    assert!(rt; is_key_taken(&lines[2].reply, 8));
-    assert!(rt; matches!(&lines[3].reply, Reply::Rows { at: 8, rows } if rows.is_empty()));
-    assert!(rt; matches!(lines[4].reply, Reply::Bad { word } if word == BadWord::NotJson));
     Ok(())
 }

@@ -1,5 +1,5 @@
 -- The graph: ordered lists, with one entry for each tenant, graph, type, vertex and edge.
-use Rattle.std.specs.Prelude.{ℕ, List, [], ◌∷◌, false, codes, Option}
+use Rattle.std.specs.Prelude.{ℕ, List, [], ◌∷◌, Bool, true, false, codes, Option}
 use Rattle.std.specs.Ordering.{on, then_cmp, nat_cmp}
 use Rattle.std.specs.declared.cmp.Ordering.{Ordering}
 use Rattle.a1_base.specs.Maps.{at}
@@ -53,6 +53,16 @@ source e = record { graph = e.graph; kind = e.from_kind; key = e.from }
 -- where it ends
 abbrev pub target : EdgeName → VertexName
 target e = record { graph = e.graph; kind = e.to_kind; key = e.to }
+
+-- the end of an edge at the vertex that it leads from (true) or to
+abbrev pub near : Bool → EdgeName → VertexName
+near true e = source e
+near false e = target e
+
+-- the other end
+abbrev pub far : Bool → EdgeName → VertexName
+far true e = target e
+far false e = source e
 
 abbrev pub tenant_at : Graph → Name → Option (Unit {0})
 tenant_at g t = at byte_order t g.tenants

@@ -5,5 +5,6 @@ pub mod Schemas
 pub mod Formed
 pub mod Reading
 pub mod Graph
+pub mod Lookups
 pub mod Rows
 pub mod KeyLaws

@@ -64,8 +64,8 @@ fn bytes_in(alloc: Global, text: &Txt) -> Result<Option<Value>, AllocError>
     }
 }
 
-// The value of this kind that is given.
-fn value_in(alloc: Global, kind: Kind, given: &Given) -> Result<Option<Value>, AllocError>
+/// The value of this kind that is given, where what is given is of the kind. `AllocError` comes for want of memory.
+pub fn value_in(alloc: Global, kind: Kind, given: &Given) -> Result<Option<Value>, AllocError>
     ensures { IfOk result (λ v. v ≡ value_in kind given.now) }
 {
     match (kind, given) {

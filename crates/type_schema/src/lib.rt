@@ -20,7 +20,7 @@ mod size;
 #[cfg(test)]
 mod tests;
 
-pub use checking::{check, key, key_of};
+pub use checking::{check, key, key_of, value_in};
 pub use form::{is_type, name_of};
 pub use laws::layouts_read_back;
 pub use layout::{front_name, front_record, front_schema, push_name, push_record, push_schema};

@@ -4,7 +4,7 @@ ghost use Rattle.type_schema.specs.Refusals.{refused, refused_at, Gives};
 use a1_base::{Memory, Txt};
 use std::alloc::{AllocError, AllocFailed, Global};
 
-/// Why an operation is refused.
+/// Why a request is refused.
 #[derive(Clone, Copy, Debug, PartialEq, Eq)]
 pub enum Word {
     /// The graph belongs to the tenant `sys`.
@@ -41,12 +41,16 @@ pub enum Word {
     NoEdge,
     /// An edge of this type between these vertices is there.
     EdgeTaken,
-    /// The type has no such attribute that could be added to.
+    /// The type has no such attribute, or it is none that could be added to.
     NoAttr,
     /// The sum is no whole number of 64 bits.
     Overflow,
     /// The request changes too much.
     Large,
+    /// The query has too many edge patterns one behind the other.
+    Deep,
+    /// A set of the query has too many vertices.
+    WorkingSet,
 }
 
 /// The refusal of a request, which then changes nothing.

@@ -12,10 +12,10 @@ fn whole(input: Input) -> Option<Bin> {
     }
 }
 
-fn asks_for(request: &Request, name: &str) -> bool {
+fn asks_for(request: &Request, kind: &str) -> bool {
     match request {
-        Request::Name(asked) => asked.as_text() == name,
-        Request::Do(_) => false,
+        Request::Ask(ask) => ask.pattern.kind.as_text() == kind,
+        Request::Do(_) | Request::After { .. } => false,
     }
 }
 
@@ -49,6 +49,6 @@ fn a_sink_takes_a_piece(rt: HostRuntime) -> Result<(), Fail> {
 fn a_request_is_read(rt: HostRuntime) -> Result<(), Fail> {
     let (_, line) = ASK_ANN.as_bytes().split_at(2);
     let request = request_reader::read(rt.alloc(), line)?;
-    assert!(rt; asks_for(&request, "ann"));
+    assert!(rt; asks_for(&request, "name"));
     Ok(())
 }

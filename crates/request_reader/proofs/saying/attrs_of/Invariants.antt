@@ -1,5 +1,5 @@
 use Rattle.std.proofs.Common.{◌≡◌, drop}
-use Rattle.request_reader.specs.Forms.{fields_in}
+use Rattle.a1_json.specs.Fields.{fields_in}
 use Rattle.request_reader.specs.Request.{each_of, attr_of, attrs_of}
 use Rattle.request_reader.proofs.EachLemmas.{with_front}
 use Rattle.request_reader.proofs.saying.attrs_of.Given as goal

@@ -1,11 +1,11 @@
-use Rattle.std.proofs.Common.{◌≡◌, ◌≤◌, ◌+◌, ◌-◌, drop, length, map}
+use Rattle.std.proofs.Common.{◌≡◌, ◌≤◌, ◌+◌, ◌-◌, [], drop, length, map}
 use Rattle.run_text.specs.Script.{lines_in, entries_from}
-use Rattle.run_text.specs.Reading.{in_first, with_entries}
+use Rattle.run_text.specs.Reading.{in_first}
 use Rattle.run_text.proofs.lines.read_requests.Given as goal
 
 abbrev pub invariant-loop-at : goal.invariant-loop-at
 invariant-loop-at l = record {
-  rest : entries_from 1 (lines_in l.bytes) ≡ with_entries (map in_first l.requests.items) (entries_from l.number (lines_in (drop l.at l.bytes)));
+  rest : entries_from 1 [] (lines_in l.bytes) ≡ entries_from l.number (map in_first l.requests.items) (lines_in (drop l.at l.bytes));
   within : l.at ≤ length l.bytes + 1;
   few : length l.requests.items + 1 ≤ l.number;
   counted : l.number ≤ l.at + 1;

@@ -1,5 +1,7 @@
-use Rattle.std.proofs.Common.{◌≡◌, ◌++◌, ◌∷◌, [], ap, ◌∙◌, map, length-append, arith}
+use Rattle.std.proofs.Common.{◌≡◌, ◌++◌, ◌∷◌, [], sym, ap, ◌∙◌, map, map-id, length-append, arith, rules}
 use Rattle.std.proofs.lemmas.List.{map-append}
+use Rattle.std.proofs.lemmas.Iterator.Adapters.{YieldsList-from_vec}
+use Rattle.std.proofs.lemmas.Iterator.Consumers.{YieldsList-end}
 use Rattle.request_reader.specs.Request.{request_of}
 use Rattle.session.specs.Serving.{Step}
 use Rattle.answer_text.specs.declared.transcript.Line.{Line}
@@ -30,4 +32,8 @@ loop-request-preserved c =
 
 pub returns-clause-legal : goal.returns-clause-legal
 returns-clause-legal c =
-    served_legal c.args.plain.now c.args.clock.now (record { session = c.args.number; lines = c.loop-request.lines }) c.loop-request.plain c.loop-request.clock c.loop-request.invariant.stands
+    let all = YieldsList-end (YieldsList-from_vec {s = c.into_iter-request-iterator.result} c.args.requests.items (search rules) (search rules))
+    c.loop-request.yielded c.loop-request.request-iterator c.loop-request.yielded_by c.next.result c.next.new.self c.in-None.is c.next.ensures.steps in
+    let asked : map (λ (l : Line). l.request) c.loop-request.lines ≡ c.args.requests.items = c.loop-request.invariant.requests ∙ sym (map-id c.loop-request.yielded) ∙ all.0 in
+    served_legal c.args.plain.now c.args.clock.now (record { session = c.args.number; lines = c.loop-request.lines }) c.loop-request.plain c.loop-request.clock
+    (rw asked c.requires.names) c.loop-request.invariant.stands

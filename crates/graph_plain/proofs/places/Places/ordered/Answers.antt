@@ -1,5 +1,0 @@
-use Rattle.graph_plain.proofs.PlacesLemmas.{ordered_kept}
-use Rattle.graph_plain.proofs.places.Places.ordered.Goals as goal
-
-pub returns : goal.returns
-returns g c = rw (← c.self.view_is) (ordered_kept g.K.Ord.cmp c.self.inside.map.entries c.self.invariant.ordered)
