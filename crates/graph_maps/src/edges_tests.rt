@@ -100,10 +100,7 @@ fn edges_are_found_from_both_ends(rt: HostRuntime) -> Result<(), Fail> {
     let other = edge(alloc, "a", 2, 2)?;
     edges.take(alloc, other)?;
     put(alloc, &mut edges, "b", 3, 2)?;
-    assert_eq!(rt;
-        around(alloc, &edges, 2)?.as_str(),
-        ":1>2 b:2>1 b:3>2 "
-    );
+    assert_eq!(rt; around(alloc, &edges, 2)?.as_str(), ":1>2 b:2>1 b:3>2 ");
     assert_eq!(rt; at(alloc, &edges, false, "a", 3)?, 1);
     edges.back();
     assert_eq!(rt;
