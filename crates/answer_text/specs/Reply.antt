@@ -97,6 +97,11 @@ row_data row = object (row_members row.members)
 abbrev pub rows_data : List Row → Items
 rows_data rows = items_of (map row_data rows)
 
+-- rows at a stamp as JSON
+abbrev pub answer_data : ℕ → List Row → Data
+answer_data at rows =
+    object (member (codes "at") (number (unsigned at)) (member (codes "rows") (array (rows_data rows)) no_members))
+
 -- an attribute, where the refusal has one, in front of these members
 abbrev pub with_attr : Option (List ℕ) → Members → Members
 with_attr None members = members
@@ -130,8 +135,7 @@ held_data a by =
 -- a reply as JSON
 abbrev pub reply_data : Reply → Data
 reply_data (Ok stamp) = object (member (codes "ok") (number (unsigned stamp)) no_members)
-reply_data (Rows at rows) =
-    object (member (codes "at") (number (unsigned at)) (member (codes "rows") (array (rows_data rows)) no_members))
+reply_data (Rows at rows) = answer_data at rows
 reply_data (Count at count) =
     object (member (codes "at") (number (unsigned at)) (member (codes "count") (number (unsigned count)) no_members))
 reply_data (Refused at refusal) = refused_data at refusal

@@ -2,7 +2,7 @@
 ghost use Rattle.std.specs.Prelude.{◌≡◌, IfOk, string_bytes};
 ghost use Rattle.serde_json.specs.Data.{array, object};
 ghost use Rattle.serde_json.specs.View.{view, members_view};
-ghost use Rattle.answer_text.specs.Reply.{word_text, bad_text, value_data, row_members, row_data, rows_data, refused_data, object_text, changed_data, held_data, reply_data, reply_text};
+ghost use Rattle.answer_text.specs.Reply.{word_text, bad_text, value_data, row_members, row_data, rows_data, answer_data, refused_data, object_text, changed_data, held_data, reply_data, reply_text};
 
 use crate::Reply;
 use a1_base::{Addr, Bin, Memory, TxnId, Txt};
@@ -85,11 +85,21 @@ fn row_json(alloc: Global, row: &Row) -> Result<Json, AllocError>
 fn rows_json(alloc: Global, rows: &[Row]) -> Result<Json, AllocError>
     ensures { IfOk result (λ v. view v ≡ array (rows_data rows.now)) }
 {
-    let mut list = Vec::new(alloc);
+    let mut list = Vec::with_capacity(alloc, rows.len())?;
     for row in rows {
         list.push(row_json(alloc, row)?)?;
     }
     Ok(Json::Array(list))
+}
+
+// Rows at a stamp, as JSON; `json!` would copy them.
+fn answer_json(alloc: Global, at: u64, rows: &[Row]) -> Result<Json, AllocError>
+    ensures { IfOk result (λ v. view v ≡ answer_data at rows.now) }
+{
+    let mut members = Map::new(alloc);
+    members.insert(String::from_str(alloc, "at")?, Json::from(at))?;
+    members.insert(String::from_str(alloc, "rows")?, rows_json(alloc, rows)?)?;
+    Ok(Json::Object(members))
 }
 
 // A refusal at a stamp, as JSON.
@@ -135,10 +145,7 @@ fn reply_json(alloc: Global, reply: &Reply) -> Result<Json, AllocError>
 {
     match reply {
         Reply::Ok { stamp } => json!(in alloc; {"ok": *stamp}),
-        Reply::Rows { at, rows } => {
-            let rows = rows_json(alloc, rows.as_slice())?;
-            json!(in alloc; {"at": *at, "rows": &rows})
-        }
+        Reply::Rows { at, rows } => answer_json(alloc, *at, rows.as_slice()),
         Reply::Count { at, count } => json!(in alloc; {"at": *at, "count": *count}),
         Reply::Refused { at, refusal } => refused_json(alloc, *at, refusal),
         Reply::Changed { object, seen, now } => changed_json(alloc, *object, *seen, *now),
