@@ -74,9 +74,16 @@ fn put(alloc: Global, edges: &mut Edges, kind: &str, from: i64, to: i64) -> Resu
     Ok(())
 }
 
-#[test]
-fn edges_are_found_from_both_ends(rt: HostRuntime) -> Result<(), Fail> {
-    let alloc = rt.alloc();
+// How many edges of type `b` lead from vertex 2, how many lead to it, and how many without a type.
+fn counts(alloc: Global, edges: &Edges) -> Result<String, Fail> {
+    let from = at(alloc, edges, true, "b", 2)?;
+    let to = at(alloc, edges, false, "b", 2)?;
+    let of_no_type = at(alloc, edges, false, "", 2)?;
+    Ok(format!(in alloc; "{} {} {}", from, to, of_no_type)?)
+}
+
+// Edges around vertex 2, with a loop and an empty type.
+fn some_edges(alloc: Global) -> Result<Edges, Fail> {
     let mut edges = Edges::new(alloc);
     for (kind, from, to) in [
         ("b", 2, 3),
@@ -87,31 +94,48 @@ fn edges_are_found_from_both_ends(rt: HostRuntime) -> Result<(), Fail> {
     ] {
         put(alloc, &mut edges, kind, from, to)?;
     }
+    Ok(edges)
+}
+
+fn take(alloc: Global, edges: &mut Edges, kind: &str, from: i64, to: i64) -> Result<(), Fail> {
+    let name = edge(alloc, kind, from, to)?;
+    edges.take(alloc, name)?;
+    Ok(())
+}
+
+#[test]
+fn edges_are_found_from_both_ends(rt: HostRuntime) -> Result<(), Fail> {
+    let alloc = rt.alloc();
+    let edges = some_edges(alloc)?;
     assert_eq!(rt;
         around(alloc, &edges, 2)?.as_str(),
         ":1>2 a:2>2 b:2>1 b:2>3 "
     );
-    assert_eq!(rt; at(alloc, &edges, true, "b", 2)?, 2);
-    assert_eq!(rt; at(alloc, &edges, false, "b", 2)?, 0);
-    assert_eq!(rt; at(alloc, &edges, false, "", 2)?, 1);
+    assert_eq!(rt; counts(alloc, &edges)?.as_str(), "2 0 1");
+    Ok(())
+}
+
+// Takes two edges out, one of them the loop, and puts one in.
+fn change(alloc: Global, edges: &mut Edges) -> Result<(), Fail> {
+    take(alloc, edges, "b", 2, 3)?;
+    take(alloc, edges, "a", 2, 2)?;
+    put(alloc, edges, "b", 3, 2)
+}
+
+#[test]
+fn edges_go_back(rt: HostRuntime) -> Result<(), Fail> {
+    let alloc = rt.alloc();
+    let mut edges = some_edges(alloc)?;
     edges.keep();
-    let one = edge(alloc, "b", 2, 3)?;
-    edges.take(alloc, one)?;
-    let other = edge(alloc, "a", 2, 2)?;
-    edges.take(alloc, other)?;
-    put(alloc, &mut edges, "b", 3, 2)?;
+    change(alloc, &mut edges)?;
     assert_eq!(rt; around(alloc, &edges, 2)?.as_str(), ":1>2 b:2>1 b:3>2 ");
-    assert_eq!(rt; at(alloc, &edges, false, "a", 3)?, 1);
+    assert_eq!(rt; counts(alloc, &edges)?.as_str(), "1 1 1");
     edges.back();
     assert_eq!(rt;
         around(alloc, &edges, 2)?.as_str(),
         ":1>2 a:2>2 b:2>1 b:2>3 "
     );
-    assert_eq!(rt; at(alloc, &edges, true, "b", 2)?, 2);
-    let gone = edge(alloc, "b", 3, 2)?;
-    assert!(rt; edges.get(&gone).is_none());
-    let entries = edges.entries(alloc)?;
-    assert_eq!(rt; entries.len(), 5);
+    assert_eq!(rt; counts(alloc, &edges)?.as_str(), "2 0 1");
     Ok(())
 }
 
