@@ -67,7 +67,7 @@ gathers_one left s = record {
 
 pub gathers_more : (all left : List StampSeat) (v w : Watch) (s : StampSeat) → Gathered all (left ++ s ∷ []) v → Learned (joined v (watch s)) w → Gathered all left w
 gathers_more all left v w s g l =
-    let e = l.1 in
+    let e = l.2 in
     let a : w.additions ≡ v.additions + (watch s).additions = ap (λ (z : Watch). z.additions) e in
     let b : length w.lanes ≡ length (v.lanes ++ (watch s).lanes) = ap (λ (z : Watch). length z.lanes) e in
     let k = l.0 in

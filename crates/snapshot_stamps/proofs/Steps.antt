@@ -1,5 +1,5 @@
 -- Each step on the clock keeps its rule.
-use Rattle.std.proofs.Common.{sum_by, ◌≡◌, ℕ, ◌+◌, ◌%◌, ◌^◌, ◌<◌, ◌≤◌, min, List, [], ◌∷◌, ◌++◌, length, length-append, get_or, set, sym, refl, ap, ◌∙◌, subst, arith}
+use Rattle.std.proofs.Common.{sum_by, ◌≡◌, ℕ, ◌+◌, ◌%◌, ◌^◌, ◌<◌, ◌≤◌, min, List, [], ◌∷◌, ◌++◌, length, length-append, append-nil, get_or, set, sym, refl, ap, ◌∙◌, subst, arith}
 use mathlib.Core.Option.{some}
 use mathlib.Core.Logic.{dite}
 use native.Mathlib.Decide.{dec_lt}
@@ -8,7 +8,7 @@ use Rattle.atomic_table.specs.Table.{State, Me, opening, keeps, Allows, Splits, 
 use Rattle.atomic_table.proofs.Lists.{set_else}
 use Rattle.a1_base.proofs.Sums.{sum_set, sum_has, sum_more, sum_le}
 use Rattle.snapshot_stamps.specs.declared.watch.Watch.{Watch}
-use Rattle.snapshot_stamps.specs.Watched.{lanes_from, newcomer, knowing, having_drawn, noted, first_lane, other_lanes, joined, spent}
+use Rattle.snapshot_stamps.specs.Watched.{lanes_from, newcomer, resting, having_drawn, noted, first_lane, other_lanes, joined, meeting, spent}
 use Rattle.a1_base.specs.declared.limits.TheConstants.{LAST_STAMP}
 use Rattle.snapshot_stamps.specs.Plays.{LoadsClock, Raises}
 use Rattle.snapshot_stamps.specs.Clock.{times, once_between, WatchFits, Clock}
@@ -67,11 +67,10 @@ module _ (lanes from : ℕ) where
                 (λ j u ne e. let o = k.fits j u e in record {
                   known = (let r = o.known in omega arith);
                   within = o.within;
-                  floor = o.floor;
                   over_lanes = o.over_lanes;
                   over_known = o.over_known;
                   no_lane = o.no_lane;
-                  rests = o.rests;
+                  pins = o.pins;
                 })
                 fit;
           }
@@ -81,7 +80,7 @@ module _ (lanes from : ℕ) where
       let v : Watch = me.0 in
       let n : ℕ = get_or s.words 0 0 in
       let is : n ≡ k.clock = clock_is s k in
-      let w : Watch = knowing (min n LAST_STAMP) v in
+      let w : Watch = record v { known = min n LAST_STAMP; looks = v.looks + 1 } in
       let mine = k.fits id v at in
       let known = mine.known in
       let end = far s k in
@@ -95,11 +94,10 @@ module _ (lanes from : ℕ) where
             record {
               known = omega arith;
               within = omega arith;
-              floor = mine.floor;
               over_lanes = mine.over_lanes;
               over_known = λ some_over. let t = mine.over_known some_over in omega arith;
               no_lane = mine.no_lane;
-              rests = mine.rests;
+              pins = mine.pins;
             },
         (((omega arith, refl), (mine.within, omega arith, omega arith)), refl),
       )
@@ -122,11 +120,10 @@ module _ (lanes from : ℕ) where
         record {
           known = omega arith;
           within = omega arith;
-          floor = mine.floor;
           over_lanes = mine.over_lanes;
           over_known = λ some_over. let t = mine.over_known some_over in omega arith;
           no_lane = λ none. absurd (some_length v.lanes some_lane none);
-          rests = mine.rests;
+          pins = mine.pins;
         }
 
     -- one is added at the last stamp or above
@@ -141,11 +138,10 @@ module _ (lanes from : ℕ) where
         record {
           known = omega arith;
           within = omega arith;
-          floor = mine.floor;
           over_lanes = omega arith;
           over_known = λ some_over. refl;
           no_lane = λ none. absurd (some_length v.lanes some_lane none);
-          rests = mine.rests;
+          pins = mine.pins;
         }
 
   pub raises : (slots id : ℕ) (me : Mine) → 0 < length me.0.lanes → me.0.known < LAST_STAMP
@@ -177,17 +173,16 @@ module _ (lanes from : ℕ) where
 
   -- what the rule says of one that has made no step
   abbrev fresh : ℕ → ℕ → List ℕ → Watch
-  fresh known floor lanes = record (newcomer known lanes) { floor = floor }
+  fresh known floor lanes = record (newcomer known lanes) { pins = resting floor }
 
   fresh_fits : (clock known floor : ℕ) (lanes : List ℕ) → known ≤ clock → known ≤ LAST_STAMP → floor ≤ from → WatchFits from clock (fresh known floor lanes)
   fresh_fits clock known floor lanes low within bound = record {
     known = low;
     within = within;
-    floor = bound;
     over_lanes = omega arith;
     over_known = λ some_over. absurd (omega arith);
     no_lane = λ none. (refl, refl);
-    rests = (refl, refl, refl);
+    pins = record { floor = bound; rests = (refl, refl, refl) };
   }
 
   -- one view is cut in two, and what counts is shared out
@@ -223,7 +218,7 @@ module _ (lanes from : ℕ) where
   pub notes : (id : ℕ) (v : Watch) → Splits Kept id v v (noted v)
   notes id v = cuts id v v (noted v)
       record { additions = omega arith; drawn = λ x. omega arith; lanes_out = omega arith; laned = λ x. omega arith; over = omega arith }
-      (λ clock f. (f, fresh_fits clock _ _ _ f.known f.within f.floor))
+      (λ clock f. (f, fresh_fits clock _ _ _ f.known f.within f.pins.floor))
 
   newcomers_cut : (id : ℕ) (l : List ℕ) → 0 < length l → let v = newcomer from l in Splits Kept id v (first_lane v) (other_lanes v)
   newcomers_cut id [] some_lane = absurd (omega arith)
@@ -231,7 +226,7 @@ module _ (lanes from : ℕ) where
       let v : Watch = newcomer from (k ∷ ks) in
       cuts id v (first_lane v) (other_lanes v)
       record { additions = refl; drawn = λ x. refl; lanes_out = omega arith; laned = λ x. sym (times_append x (k ∷ []) ks); over = refl }
-      (λ clock f. (fresh_fits clock _ _ _ f.known f.within f.floor, fresh_fits clock _ _ _ f.known f.within f.floor))
+      (λ clock f. (fresh_fits clock _ _ _ f.known f.within f.pins.floor, fresh_fits clock _ _ _ f.known f.within f.pins.floor))
 
   -- of lanes that have made no step the first is kept
   pub lanes_cut : (id : ℕ) (me : Mine) → me ≡ (newcomer from me.0.lanes, []) → 0 < length me.0.lanes → Splits Kept id me.0 (first_lane me.0) (other_lanes me.0)
@@ -251,7 +246,7 @@ module _ (lanes from : ℕ) where
       let p = sum (λ z. z.additions) refl refl in
       let o = sum (λ z. z.over) refl refl in
       let l : length (v.lanes ++ w.lanes) ≡ length v.lanes + length w.lanes = length-append v.lanes w.lanes in
-      let r = a.known in let r' = b.known in let t = a.within in let t' = b.within in let f = a.floor in let f' = b.floor in let y = a.over_lanes in let y' = b.over_lanes in
+      let r = a.known in let r' = b.known in let t = a.within in let t' = b.within in let f = a.pins.floor in let f' = b.pins.floor in let y = a.over_lanes in let y' = b.over_lanes in
       record {
         clock = k.clock;
         words = k.words;
@@ -267,7 +262,6 @@ module _ (lanes from : ℕ) where
             record {
               known = omega arith;
               within = omega arith;
-              floor = omega arith;
               over_lanes = omega arith;
               over_known = λ some_over. dite (dec_lt 0 v.over)
                   (λ (yes_ : 0 < v.over). let z = a.over_known yes_ in omega arith)
@@ -277,7 +271,7 @@ module _ (lanes from : ℕ) where
                   let x = a.no_lane (no_length v.lanes (omega arith)) in
                   let z = b.no_lane (no_length w.lanes (omega arith)) in
                   ((let x' = x.0 in let z' = z.0 in omega arith), ap (λ (q : List ℕ). q ++ w.drawn) x.1 ∙ z.1);
-              rests = a.rests;
+              pins = record { floor = omega arith; rests = a.pins.rests };
             } j u e)
             (fresh_fits k.clock _ _ _ (omega arith) (omega arith) (omega arith));
       }
@@ -297,3 +291,11 @@ module _ (lanes from : ℕ) where
         bounded = omega arith;
         fits = each_alone (WatchFits from from) (newcomer from (lanes_from 1 lanes)) (fresh_fits from _ _ _ (omega arith) begun (omega arith));
       }
+
+-- what a note gives is knowledge alone
+pub met : (v note : Watch) → noted note ≡ note → joined v note ≡ meeting v note
+met v note bare =
+    subst (λ (z : Watch). joined v z ≡ meeting v z) bare
+    (λ i. record (meeting v (noted note)) { drawn = append-nil v.drawn i; additions = plus_zero v.additions i; lanes = append-nil v.lanes i; over = plus_zero v.over i }) where
+      plus_zero : (n : ℕ) → n + 0 ≡ n
+      plus_zero n = omega arith

@@ -4,6 +4,7 @@ use mathlib.Core.Option.{some}
 use lib.ListN.{get_elem?}
 use Rattle.atomic_table.specs.Table.{State}
 use Rattle.snapshot_stamps.specs.declared.watch.Watch.{Watch}
+use Rattle.snapshot_stamps.specs.declared.watch.Pins.{Pins}
 use Rattle.snapshot_stamps.specs.declared.watch.Mark.TheVariants.{Empty}
 use Rattle.a1_base.specs.declared.limits.TheConstants.{LAST_STAMP}
 
@@ -15,22 +16,24 @@ times x xs = count_by (λ y. y == x) xs
 abbrev pub once_between : ℕ → ℕ → ℕ → ℕ
 once_between low high x = cond (nat_lt low x) (cond (nat_lt high x) 0 1) 0
 
+-- what the rule says of one seat's pins and floor: no lane is marked, and none is looked at
+pub record PinsFit (from : ℕ) (p : Pins) : Type 0 where
+  pub floor : p.floor ≤ from
+  pub rests : (p.mark ≡ Empty) × (p.loaded ≡ None) × (p.scan ≡ None)
+
 -- what the rule says of one seat
 pub record WatchFits (from clock : ℕ) (v : Watch) : Type 0 where
   pub known : v.known ≤ clock
   pub within : v.known ≤ LAST_STAMP
-  pub floor : v.floor ≤ from
   -- a lane by whose seat an addition was made at the last stamp or above knows the last stamp
   pub over_lanes : v.over ≤ length v.lanes
   pub over_known : 0 < v.over → v.known ≡ LAST_STAMP
   -- without a lane there are no additions
   pub no_lane : v.lanes ≡ [] → (v.additions ≡ 0) × (v.drawn ≡ [])
-  -- no lane is marked, and none is looked at
-  pub rests : (v.mark ≡ Empty) × (v.loaded ≡ None) × (v.scan ≡ None)
+  pub pins : PinsFit from v.pins
 
 -- The clock is where it began plus all additions. Each stamp that it passed, up to the last stamp, was drawn by one
--- seat, once.
--- Each lane belongs to one seat
+-- seat, once. Each lane belongs to one seat
 pub record Clock (lanes from : ℕ) (s : State (Unit {0}) Watch) : Type 0 where
   pub clock : ℕ
   pub words : s.words ≡ clock ∷ []

@@ -1,7 +1,7 @@
 //! What a seat does at the clock.
 ghost use Rattle.std.specs.Prelude.{◌≡◌, ℕ, ◌<◌, ◌≤◌, ◌++◌, IfSome, IfNone, length};
 ghost use Rattle.std.specs.Option.{option_to_list};
-ghost use Rattle.snapshot_stamps.specs.Watched.{noted, joined, having_drawn, Learned, Sees, DrawsStamp};
+ghost use Rattle.snapshot_stamps.specs.Watched.{noted, meeting, having_looked, having_drawn, Learned, Sees, DrawsStamp};
 ghost use Rattle.snapshot_stamps.specs.Plays.{LoadsClock, Raises};
 ghost use Rattle.snapshot_stamps.specs.Seats.{watch, noted_watch, IsSeatOf, IsNoteOf};
 
@@ -67,6 +67,7 @@ impl Stamps {
         requires stamp { mark ≤ LAST_STAMP }
         ensures seat { IsSeatOf self.now seat.new }
         ensures learned { Learned (watch seat.old) (watch seat.new) }
+        ensures looked { (watch seat.old).looks < (watch seat.new).looks }
         ensures reached { mark ≤ (watch seat.new).known }
     {
         let backoff = Backoff::new();
@@ -88,7 +89,7 @@ impl Stamps {
         requires { IsSeatOf self.now seat.old }
         ensures seat { IsSeatOf self.now seat.new }
         ensures some { IfSome result (λ stamp. ((watch seat.old).known < stamp) × (stamp ≤ LAST_STAMP)
-            × (watch seat.new ≡ having_drawn stamp (watch seat.old))) }
+            × (watch seat.new ≡ having_drawn stamp (having_looked (watch seat.old)))) }
         ensures none { IfNone result ((watch seat.new).known ≡ LAST_STAMP) }
         ensures drawn { (watch seat.new).drawn ≡ (watch seat.old).drawn ++ option_to_list result }
         ensures lanes { (watch seat.new).lanes ≡ (watch seat.old).lanes }
@@ -139,7 +140,7 @@ impl Stamps {
         requires seat { IsSeatOf self.now seat.old }
         requires note { IsNoteOf self.now note }
         ensures seat { IsSeatOf self.now seat.new }
-        ensures met { watch seat.new ≡ joined (watch seat.old) (noted_watch note) }
+        ensures met { watch seat.new ≡ meeting (watch seat.old) (noted_watch note) }
         ensures known { ((watch seat.old).known ≤ (watch seat.new).known)
             × ((noted_watch note).known ≤ (watch seat.new).known) }
     {

@@ -22,6 +22,18 @@ pub struct Scan {
     pub met: Option<u64>,
 }
 
+/// What a seat knows of pins and of the floor. All of it is at rest so far: no call pins or looks over the lanes yet.
+pub struct Pins {
+    /// What stands in its lane.
+    pub mark: Mark,
+    /// A stamp that was loaded for a pin, and is not stored yet.
+    pub loaded: Option<u64>,
+    /// A floor that is known.
+    pub floor: u64,
+    /// The last look over the lanes.
+    pub scan: Option<Scan>,
+}
+
 /// What a seat knows.
 pub struct Watch {
     /// A stamp that the clock has reached.
@@ -34,12 +46,7 @@ pub struct Watch {
     pub lanes: [u64; 0],
     /// How many of the additions were made where the clock stood at the last stamp or above.
     pub over: u64,
-    /// What stands in its lane. This and what follows are at rest so far: no call pins or looks over the lanes yet.
-    pub mark: Mark,
-    /// A stamp that was loaded for a pin, and is not stored yet.
-    pub loaded: Option<u64>,
-    /// A floor that is known.
-    pub floor: u64,
-    /// The last look over the lanes.
-    pub scan: Option<Scan>,
+    /// How often the seat has looked at the clock. The reading within an addition is no look.
+    pub looks: u64,
+    pub pins: Pins,
 }

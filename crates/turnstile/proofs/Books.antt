@@ -44,12 +44,10 @@ skip_first : (k : ℕ) (items : List Mark) → 0 < k → entries_of writer k ((0
 skip_first k items pos = cond-false _ _ _ (ne_eqb 0 k (λ (e : 0 ≡ k). omega arith))
 
 -- the marks of a book that has been closed
-pub closed : (writers times : ℕ) (items seen before log : List Mark) → before ≡ (0, 0) ∷ [] → log ≡ (0, 0) ∷ items
-    → ((k : ℕ) → 0 < k → entries_of writer k log ≡ entries_of writer k seen)
-    → HaveWritten writers times before seen → HasEach writers times items
-closed writers times items seen before log is whole own wrote k pos le =
+pub closed : (writers times : ℕ) (items before log : List Mark) → before ≡ (0, 0) ∷ [] → log ≡ (0, 0) ∷ items
+    → HaveWritten writers times before log → HasEach writers times items
+closed writers times items before log is whole wrote k pos le =
     sym (skip_first k items pos)
     ∙ (sym (ap (entries_of writer k) whole)
-    ∙ (own k pos
     ∙ (wrote k (up_to_all k writers pos le)
-    ∙ (ap (λ (z : List Mark). entries_of writer k z ++ marks k times) is ∙ ap (λ (z : List Mark). z ++ marks k times) (skip_first k [] pos)))))
+    ∙ (ap (λ (z : List Mark). entries_of writer k z ++ marks k times) is ∙ ap (λ (z : List Mark). z ++ marks k times) (skip_first k [] pos))))

@@ -1,5 +1,5 @@
 -- What the end shows to the pass that has all numbers.
-use Rattle.std.proofs.Common.{◌≡◌, ◌≢◌, ℕ, ◌≤◌, List, [], ◌∷◌, ◌++◌, sym, refl, ap, ◌∙◌, subst, ⊎_elim, arith}
+use Rattle.std.proofs.Common.{◌≡◌, ◌≢◌, ℕ, zero, suc, ◌<◌, ◌≤◌, List, [], ◌∷◌, ◌++◌, length, sym, refl, ap, ◌∙◌, subst, ⊎_elim, arith}
 use mathlib.Core.Option as maybe
 use mathlib.Core.Option.{some, some-injective}
 use mathlib.Core.Logic.{dite}
@@ -10,10 +10,10 @@ use Rattle.atomic_table.specs.Table.{State, Final, Seen}
 use Rattle.turnstile.specs.declared.view.View.{View}
 use Rattle.turnstile.specs.declared.view.Stage.{Stage}
 use Rattle.turnstile.specs.declared.view.Stage.TheVariants.{Idle, Inside}
-use Rattle.turnstile.specs.Turns.{HasTicket, ClosesWith, Kept}
+use Rattle.turnstile.specs.Turns.{HasTicket, ViewFits, ClosesWith, Kept}
 use Rattle.turnstile.specs.Entries.{HasAll}
 use Rattle.a1_base.specs.Lists.{entries_of}
-use Rattle.turnstile.proofs.Histories.{has_first, of_append}
+use Rattle.turnstile.proofs.Histories.{has_first, of_append, whole}
 
 nothing_first : {E : Type 0} (xs ys : List E) → xs ++ ys ≡ [] → xs ≡ []
 nothing_first [] ys e = refl
@@ -37,35 +37,38 @@ module _ {T E : Type 0} (stands : T → List E → Type 0) (number : E → ℕ) 
       let r = fit.range x.0 x.1 in
       (k.apart i id u v other e at).numbers x.0 x.1 (all x.0 r.0 r.1))
 
-  pub closes : (id : ℕ) (v : View E) (ws : List ℕ) (xs : List (Option T)) → v.stage ≡ Idle → HasAll passes v.numbers → Final (Seen K id v) ws xs
+  -- the log is what was seen
+  seen_all : (log : List E) (drawn served : ℕ) (v : View E) → ViewFits number passes log drawn served v → ((x : ℕ) → passes < x → entries_of number x log ≡ [])
+      → HasAll passes v.numbers → 0 < length v.numbers → log ≡ v.seen
+  seen_all log drawn served v mine no_more all held = whole number log v.seen mine.seen own where
+    own : (x : ℕ) → entries_of number x log ≡ entries_of number x v.seen
+    own zero = mine.zero held
+    own (suc x) = dite (dec_le (suc x) passes)
+        (λ (le : suc x ≤ passes). mine.own (suc x) (all (suc x) (omega arith) le))
+        (λ (not : suc x ≤ passes → ⊥).
+        let none : entries_of number (suc x) log ≡ [] = no_more (suc x) (omega arith) in
+        let parts : entries_of number (suc x) v.seen ++ entries_of number (suc x) mine.seen.0 ≡ [] = sym (of_append number (suc x) v.seen mine.seen.0) ∙ (sym (ap (entries_of number (suc x)) mine.seen.1) ∙ none) in
+        none ∙ sym (nothing_first (entries_of number (suc x) v.seen) (entries_of number (suc x) mine.seen.0) parts))
+
+  pub closes : (id : ℕ) (v : View E) (ws : List ℕ) (xs : List (Option T)) → v.stage ≡ Idle → 0 < length v.numbers → HasAll passes v.numbers → Final (Seen K id v) ws xs
       → (y : T) × (get_elem? xs 0 ≡ some (Some y)) × ClosesWith stands number start y v.seen
-  closes id v ws xs idle all end =
-      let s = end.0 in let k = end.1.0 in let at = end.1.1 in let mine = k.fits id v at in
+  closes id v ws xs idle some_number all end =
+      let s = end.0 in let k = end.1.0 in let at = end.1.1 in
+      let same : k.log ≡ v.seen = seen_all k.log k.drawn k.served v (k.fits id v at) k.no_more all some_number in
       ⊎_elim
       (λ t. (
         t.0,
         end.4 0 (Some t.0) (ap (λ (h : List (maybe.Option (Option T))). get_elem? h 0) t.1),
-        (
-          k.log,
-          t.2,
-          mine.seen,
-          λ x pos. dite (dec_le x passes)
-              (λ (le : x ≤ passes). mine.own x (all x pos le))
-              (λ (not : x ≤ passes → ⊥).
-              let none : entries_of number x k.log ≡ [] = k.no_more x (omega arith) in
-              let parts : entries_of number x v.seen ++ entries_of number x mine.seen.0 ≡ [] = sym (of_append number x v.seen mine.seen.0) ∙ (sym (ap (entries_of number x) mine.seen.1) ∙ none) in
-              none ∙ sym (nothing_first (entries_of number x v.seen) (entries_of number x mine.seen.0) parts)),
-          k.zeros,
-        ),
+        (subst (stands t.0) same t.2, ap (entries_of number 0) (sym same) ∙ k.zeros),
       ))
       (λ t. absurd (clash id v s k at idle all t.1.0 t.1.2 t.1.1 t.1.3 t.1.4))
       k.slot
 
   -- what was taken out at the end
-  pub closes_with : (id : ℕ) (v : View E) (ws : List ℕ) (xs : List (Option T)) (x : Option T) → v.stage ≡ Idle → HasAll passes v.numbers → Final (Seen K id v) ws xs → get_elem? xs 0 ≡ some x
+  pub closes_with : (id : ℕ) (v : View E) (ws : List ℕ) (xs : List (Option T)) (x : Option T) → v.stage ≡ Idle → 0 < length v.numbers → HasAll passes v.numbers → Final (Seen K id v) ws xs → get_elem? xs 0 ≡ some x
       → (y : T) × (x ≡ Some y) × ClosesWith stands number start y v.seen
-  closes_with id v ws xs x idle all end at =
-      let r = closes id v ws xs idle all end in
+  closes_with id v ws xs x idle some_number all end at =
+      let r = closes id v ws xs idle some_number all end in
       (r.0, some-injective x (Some r.0) (sym at ∙ r.1), r.2)
 
   pub closes_at : (x : Option T) (y z : T) (seen : List E) → x ≡ Some y → x ≡ Some z → ClosesWith stands number start y seen → ClosesWith stands number start z seen

@@ -43,6 +43,7 @@ module _ {T E : Type 0} (stands : T → List E → Type 0) (number : E → ℕ) 
       let now : n ≡ k.served = (mine.inside n inside).0 in
       let whole : k.log ≡ v.seen = (mine.inside n inside).1 in
       let grown : k.log ++ new ≡ v.seen ++ new = ap (λ (z : List E). z ++ new) whole in
+      let above : IsAmong 0 v.numbers → ⊥ = (λ (h : IsAmong 0 v.numbers). let p = (mine.range 0 h).0 in omega arith) in
       let out = k.out in
       let is : get_or s.words 2 0 ≡ word_of (length k.log) = ap (λ (z : List ℕ). get_or z 2 0) k.words in
       let next : (get_or s.words 2 0 + amount) % 2 ^ 64 ≡ word_of (length (k.log ++ new)) =
@@ -60,7 +61,7 @@ module _ {T E : Type 0} (stands : T → List E → Type 0) (number : E → ℕ) 
           few = k.few;
           held = let h = k.held in omega arith;
           begins = begins_more k.log (start ∷ []) new k.begins;
-          zeros = of_more number 0 v.numbers k.log new all (λ (h : IsAmong 0 v.numbers). let p = (mine.range 0 h).0 in omega arith) ∙ k.zeros;
+          zeros = of_more number 0 v.numbers k.log new all above ∙ k.zeros;
           no_more = λ j over. of_more number j v.numbers k.log new all (λ (h : IsAmong j v.numbers). let p = (mine.range j h).1 in omega arith) ∙ k.no_more j over;
           fits = each_set (ViewFits number passes (k.log ++ new) k.drawn k.served) s.views id w
               (λ j u ne e. let o = k.fits j u e in let a = k.apart j id u v ne e at in record {
@@ -68,7 +69,9 @@ module _ {T E : Type 0} (stands : T → List E → Type 0) (number : E → ℕ) 
                 heard = o.heard;
                 heard_own = o.heard_own;
                 own = λ x h. of_more number x v.numbers k.log new all (a.numbers x h) ∙ o.own x h;
+                zero = λ some. of_more number 0 v.numbers k.log new all above ∙ o.zero some;
                 range = o.range;
+                once = o.once;
                 ticket = o.ticket;
                 inside = λ m is. absurd (alone_inside s k id n v at inside j u ne e m is);
               })
@@ -77,7 +80,9 @@ module _ {T E : Type 0} (stands : T → List E → Type 0) (number : E → ℕ) 
                 heard = begins_none _;
                 heard_own = λ x h. absurd h;
                 own = λ x h. ap (entries_of number x) grown;
+                zero = λ some. ap (entries_of number 0) grown;
                 range = mine.range;
+                once = mine.once;
                 ticket = mine.ticket;
                 inside = λ m is. ((mine.inside m is).0, grown);
               };

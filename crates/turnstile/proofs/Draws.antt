@@ -55,7 +55,9 @@ module _ {T E : Type 0} (stands : T → List E → Type 0) (number : E → ℕ) 
                 heard = o.heard;
                 heard_own = o.heard_own;
                 own = o.own;
+                zero = o.zero;
                 range = o.range;
+                once = o.once;
                 ticket = λ n t. let p = o.ticket n t in (p.0, (let q = p.1 in omega arith), p.2);
                 inside = o.inside;
               })
@@ -64,7 +66,9 @@ module _ {T E : Type 0} (stands : T → List E → Type 0) (number : E → ℕ) 
                 heard = begins_none _;
                 heard_own = λ x h. absurd h;
                 own = mine.own;
+                zero = mine.zero;
                 range = mine.range;
+                once = mine.once;
                 ticket = λ n t. (subst (λ (z : ℕ). k.served ≤ z) t le, (let t' : k.drawn ≡ n = t in omega arith), some_number);
                 inside = λ n e. cc;
               };

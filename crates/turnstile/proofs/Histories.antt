@@ -1,8 +1,8 @@
 -- Entries by number, and lists that begin others.
 use Rattle.std.proofs.Common.{◌≡◌, ◌≢◌, ◌⊎◌, ℕ, zero, suc, ◌+◌, ◌<◌, ◌≤◌, ◌==◌, List, [], ◌∷◌, ◌++◌, length, sym, refl, ap, ◌∙◌, subst, inl, inr, ⊎_elim, arith, append_assoc, append-nil}
 use Rattle.std.proofs.lemmas.List.Elements.{filter-append}
-use Rattle.std.proofs.lemmas.Bool.{cond_both, eqb-true, eqb-false}
-use Rattle.turnstile.specs.Entries.{AllOf, without, up_to}
+use Rattle.std.proofs.lemmas.Bool.{cond_both, cond-true, eqb-true, eqb-false, eq-eqb}
+use Rattle.turnstile.specs.Entries.{AllOf, EachOnce, without, up_to}
 use Rattle.a1_base.specs.Lists.{IsAmong, BeginsWith, entries_of}
 
 module _ {E : Type 0} (number : E → ℕ) where
@@ -72,6 +72,29 @@ pub up_to_length : (n : ℕ) → length (up_to n) ≡ n
 up_to_length zero = refl
 up_to_length (suc n) = ap suc (up_to_length n)
 
+-- numbers that stand once each
+pub once_up_to : (n : ℕ) → EachOnce (up_to n)
+once_up_to zero = tt
+once_up_to (suc n) = ((λ h. let r = (up_to_has (suc n) n h).1 in omega arith), once_up_to n)
+
+pub once_without : (k : ℕ) (ns : List ℕ) → EachOnce ns → EachOnce (without k ns)
+once_without k [] once = tt
+once_without k (x ∷ xs) once = cond_both (x == k) (without k xs) (x ∷ without k xs) EachOnce (λ _. once_without k xs once.1)
+    (λ _. ((λ h. once.0 (without_else k x xs h).0), once_without k xs once.1))
+
+pub once_both : (ns ms : List ℕ) → EachOnce ns → EachOnce ms → ((k : ℕ) → IsAmong k ns → IsAmong k ms → ⊥) → EachOnce (ns ++ ms)
+once_both [] ms once once' apart = once'
+once_both (x ∷ xs) ms once once' apart =
+    ((λ h. ⊎_elim once.0 (apart x (inl refl)) (has_either x xs ms h)), once_both xs ms once.1 once' (λ k p. apart k (inr p)))
+
+has_right : (k : ℕ) (ns ms : List ℕ) → IsAmong k ms → IsAmong k (ns ++ ms)
+has_right k [] ms h = h
+has_right k (x ∷ xs) ms h = inr (has_right k xs ms h)
+
+pub once_apart : (ns ms : List ℕ) → EachOnce (ns ++ ms) → (k : ℕ) → IsAmong k ns → IsAmong k ms → ⊥
+once_apart [] ms once k p q = absurd p
+once_apart (x ∷ xs) ms once k p q = ⊎_elim (λ (e : x ≡ k). once.0 (subst (λ z. IsAmong z (xs ++ ms)) (sym e) (has_right k xs ms q))) (λ h. once_apart xs ms once.1 k h q) p
+
 -- lists of entries that begin one list
 module _ {E : Type 0} where
   pub no_rest : (xs ys : List E) → xs ++ ys ≡ xs → ys ≡ []
@@ -103,3 +126,11 @@ module _ {E : Type 0} (number : E → ℕ) where
         nothing : (xs ys : List E) → xs ++ ys ≡ [] → ys ≡ []
         nothing [] ys e = e
         nothing (x ∷ xs) ys e = cc
+
+  -- a list with no more entries of any number has no more at all
+  pub whole : (log seen : List E) → BeginsWith log seen → ((k : ℕ) → entries_of number k log ≡ entries_of number k seen) → log ≡ seen
+  whole log seen (more, is) own = is ∙ (ap (λ (z : List E). seen ++ z) (none more (λ k. no_rest (entries_of number k seen) (entries_of number k more)
+      (sym (of_append number k seen more) ∙ (sym (ap (entries_of number k) is) ∙ own k)))) ∙ append-nil seen) where
+        none : (es : List E) → ((k : ℕ) → entries_of number k es ≡ []) → es ≡ []
+        none [] all = refl
+        none (e ∷ es) all = let first : e ∷ entries_of number (number e) es ≡ [] = sym (cond-true (number e == number e) (e ∷ entries_of number (number e) es) (entries_of number (number e) es) (eq-eqb (number e) (number e) refl)) ∙ all (number e) in cc

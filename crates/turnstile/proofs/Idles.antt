@@ -8,16 +8,20 @@ use Rattle.a1_base.specs.Lists.{IsAmong, BeginsWith, entries_of}
 use Rattle.turnstile.specs.declared.view.View.{View}
 use Rattle.turnstile.specs.declared.view.Stage.TheVariants.{Idle}
 use Rattle.turnstile.specs.Turns.{tickets, view, ViewFits, Apart, Kept, NobodyInside, SomebodyInside}
+use Rattle.turnstile.specs.Entries.{EachOnce}
 use Rattle.turnstile.proofs.Histories.{begins_none}
 
 -- what the rule says of a seat outside, which has nothing to learn
 pub idle_fits : {E : Type 0} (number : E → ℕ) (passes : ℕ) (log : List E) (drawn served : ℕ) (numbers : List ℕ) (seen : List E) → BeginsWith log seen
-    → ((k : ℕ) → IsAmong k numbers → entries_of number k log ≡ entries_of number k seen) → ((k : ℕ) → IsAmong k numbers → (0 < k) × (k ≤ passes))
+    → ((k : ℕ) → IsAmong k numbers → entries_of number k log ≡ entries_of number k seen) → (0 < length numbers → entries_of number 0 log ≡ entries_of number 0 seen)
+    → ((k : ℕ) → IsAmong k numbers → (0 < k) × (k ≤ passes)) → EachOnce numbers
     → ViewFits number passes log drawn served (view Idle numbers seen)
-idle_fits number passes log drawn served numbers seen begins own range = record {
+idle_fits number passes log drawn served numbers seen begins own zero range once = record {
   seen = begins;
   own = own;
+  zero = zero;
   range = range;
+  once = once;
   ticket = λ n t. absurd t;
   inside = λ n e. cc;
   heard = begins_none _;

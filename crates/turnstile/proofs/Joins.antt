@@ -1,5 +1,5 @@
 -- Joining two seats keeps the rule.
-use Rattle.std.proofs.Common.{sum_by, ◌≡◌, ◌≢◌, ℕ, ◌+◌, ◌<◌, ◌≤◌, Bool, true, false, cond, nat_lt, List, length, set, sym, refl, ap, ◌∙◌, subst, ⊎_elim, arith, length-append, lt-ltb, le-ltb}
+use Rattle.std.proofs.Common.{sum_by, ◌≡◌, ◌≢◌, ℕ, ◌+◌, ◌<◌, ◌≤◌, Bool, true, false, cond, nat_lt, List, ◌++◌, length, set, sym, refl, ap, ◌∙◌, subst, ⊎_elim, arith, length-append, lt-ltb, le-ltb}
 use mathlib.Core.Option.{some}
 use lib.ListN.{get_elem?}
 use Rattle.a1_base.proofs.Sums.{sum_set}
@@ -13,7 +13,7 @@ use Rattle.turnstile.specs.Entries.{longer, shorter}
 use Rattle.a1_base.specs.Lists.{IsAmong, BeginsWith, entries_of}
 use Rattle.a1_base.proofs.Views.{each_set}
 use Rattle.turnstile.proofs.Lists.{apart_set, apart_flip, nobody_set, somebody_set, set_swap}
-use Rattle.turnstile.proofs.Histories.{has_either, between, of_between, begins_itself}
+use Rattle.turnstile.proofs.Histories.{has_either, once_both, between, of_between, begins_itself}
 use Rattle.turnstile.proofs.Draws.{not_inside}
 use Rattle.turnstile.proofs.Idles.{idle_fits, kept_views}
 use Rattle.std.proofs.lemmas.Bool.{cases_lt}
@@ -74,7 +74,7 @@ module _ {T E : Type 0} (stands : T → List E → Type 0) (number : E → ℕ) 
       kept_views stands number passes start s k (set less id both) (omega arith) (omega arith)
       (each_set (ViewFits number passes k.log k.drawn k.served) less id both
       (λ j u ne. each_set (ViewFits number passes k.log k.drawn k.served) s.views other spent (λ j u ne e. k.fits j u e)
-      (idle_fits number passes k.log k.drawn k.served _ _ (k.log, refl) (λ x h. absurd h) (λ x h. absurd h)) j u)
+      (idle_fits number passes k.log k.drawn k.served _ _ (k.log, refl) (λ x h. absurd h) (λ some. absurd (omega arith)) (λ x h. absurd h) tt) j u)
       record {
         seen = begins;
         heard = joined_heard k.log v.seen w.seen a.seen b.seen;
@@ -83,7 +83,12 @@ module _ {T E : Type 0} (stands : T → List E → Type 0) (number : E → ℕ) 
             (λ p. of_between number x k.log v.seen (longer v.seen w.seen) begins begun.0 (a.own x p))
             (λ p. of_between number x k.log w.seen (longer v.seen w.seen) begins begun.1 (b.own x p))
             (has_either x v.numbers w.numbers h);
+        zero = λ some. ⊎_elim
+            (λ (p : 0 < length v.numbers). of_between number 0 k.log v.seen (longer v.seen w.seen) begins begun.0 (a.zero p))
+            (λ (p : length v.numbers ≤ 0). of_between number 0 k.log w.seen (longer v.seen w.seen) begins begun.1 (b.zero (let n : length (v.numbers ++ w.numbers) ≡ length v.numbers + length w.numbers = wide in omega arith)))
+            (cases_lt 0 (length v.numbers));
         range = λ x h. ⊎_elim (a.range x) (b.range x) (has_either x v.numbers w.numbers h);
+        once = once_both v.numbers w.numbers a.once b.once (k.apart id other v w (λ (z : id ≡ other). ne (sym z)) at at').numbers;
         ticket = λ m t. absurd t;
         inside = λ m e. cc;
       })

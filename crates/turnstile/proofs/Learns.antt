@@ -42,7 +42,7 @@ module _ {T E : Type 0} (stands : T → List E → Type 0) (number : E → ℕ) 
           zeros = k.zeros;
           no_more = k.no_more;
           fits = each_set (ViewFits number passes k.log k.drawn k.served) s.views id w (λ j u ne e. k.fits j u e)
-              record { seen = mine.seen; heard = begins_none _; heard_own = λ x h. absurd h; own = mine.own; range = mine.range; ticket = mine.ticket; inside = mine.inside };
+              record { seen = mine.seen; heard = begins_none _; heard_own = λ x h. absurd h; own = mine.own; zero = mine.zero; range = mine.range; once = mine.once; ticket = mine.ticket; inside = mine.inside };
           apart = apart_set s.views id w k.apart
               (λ j u ne e. let a = k.apart id j v u (λ (z : id ≡ j). ne (sym z)) at e in record { numbers = a.numbers; tickets = a.tickets });
           slot = ⊎_elim
@@ -50,5 +50,5 @@ module _ {T E : Type 0} (stands : T → List E → Type 0) (number : E → ℕ) 
               (λ t. inr (t.0, somebody_set s.views id v w at (not_inside v idle) t.1))
               k.slot;
         },
-        (mine.heard, mine.heard_own, refl),
+        (mine.heard, mine.heard_own, mine.once, refl),
       )

@@ -95,7 +95,9 @@ module _ {T E : Type 0} (stands : T → List E → Type 0) (number : E → ℕ) 
                 heard = begins_none _;
                 heard_own = λ x h. absurd h;
                 own = λ j h. refl;
+                zero = λ some. refl;
                 range = mine.range;
+                once = mine.once;
                 ticket = λ n p. mine.ticket n (subst (λ (z : Stage). HasTicket z n) (sym waits) p);
                 inside = λ n e. let same : d ≡ n = cc in (sym same ∙ sym now, refl);
               };

@@ -56,13 +56,15 @@ module _ {T E : Type 0} (stands : T → List E → Type 0) (number : E → ℕ) 
                 heard = o.heard;
                 heard_own = o.heard_own;
                 own = o.own;
+                zero = o.zero;
                 range = o.range;
+                once = o.once;
                 ticket = λ m t. let p = o.ticket m t in
                     let other : m ≢ n = λ (z : m ≡ n). a.tickets n (subst (HasTicket u.stage) z t) ticket in
                     ((let q = p.0 in omega arith), p.1, p.2);
                 inside = λ m is. absurd (alone j u ne e m is);
               })
-              (idle_fits number passes k.log k.drawn (k.served + 1) _ _ mine.seen mine.own mine.range);
+              (idle_fits number passes k.log k.drawn (k.served + 1) _ _ mine.seen mine.own mine.zero mine.range mine.once);
           apart = apart_set s.views id w k.apart
               (λ j u ne e. let a = k.apart id j v u (λ (z : id ≡ j). ne (sym z)) at e in record {
                 numbers = a.numbers;

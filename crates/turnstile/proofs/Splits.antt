@@ -1,5 +1,5 @@
 -- Splitting a seat keeps the rule.
-use Rattle.std.proofs.Common.{sum_by, ◌≡◌, ℕ, ◌+◌, List, [], ◌∷◌, ◌++◌, length, set, sym, ap, subst, ⊎_elim, arith}
+use Rattle.std.proofs.Common.{sum_by, ◌≡◌, ℕ, ◌+◌, ◌<◌, List, [], ◌∷◌, ◌++◌, length, set, sym, ap, subst, ⊎_elim, arith}
 use Rattle.std.specs.Prelude.{Option}
 use Rattle.atomic_table.specs.Table.{State, Splits}
 use Rattle.atomic_table.proofs.Lists.{at_set, at_longer}
@@ -10,7 +10,7 @@ use Rattle.turnstile.specs.Turns.{tickets, first_half, second_half, ViewFits, Ap
 use Rattle.a1_base.specs.Lists.{IsAmong}
 use Rattle.a1_base.proofs.Views.{each_set, each_end}
 use Rattle.turnstile.proofs.Lists.{apart_set, apart_end, somebody_set}
-use Rattle.turnstile.proofs.Histories.{without_else, without_less}
+use Rattle.turnstile.proofs.Histories.{without_else, without_less, has_some, once_without}
 use Rattle.turnstile.proofs.Draws.{not_inside}
 use Rattle.turnstile.proofs.Idles.{idle_fits, kept_views}
 
@@ -32,14 +32,15 @@ module _ {T E : Type 0} (stands : T → List E → Type 0) (number : E → ℕ) 
       let none : f v ≡ 0 = ap tickets idle in
       let less = without_less n v.numbers has in
       let mine = k.fits id v at in
+      let some_number : 0 < length v.numbers = has_some n v.numbers has in
       let mine_of : (j : ℕ) → IsAmong j (n ∷ []) → IsAmong j v.numbers = λ j. ⊎_elim (λ (e : n ≡ j). subst (λ (z : ℕ). IsAmong z v.numbers) e has) (λ x. absurd x) in
       let P : View E → Type 0 = λ z. (m : ℕ) → z.stage ≡ Inside m → ⊥ in
       kept_views stands number passes start s k (views ++ right ∷ []) (omega arith) (omega arith)
       (each_end (ViewFits number passes k.log k.drawn k.served) views right
       (each_set (ViewFits number passes k.log k.drawn k.served) s.views id left (λ j u ne e. k.fits j u e)
-      (idle_fits number passes k.log k.drawn k.served _ _ mine.seen (λ j h. mine.own j (mine_of j h)) (λ j h. mine.range j (mine_of j h))))
+      (idle_fits number passes k.log k.drawn k.served _ _ mine.seen (λ j h. mine.own j (mine_of j h)) (λ some. mine.zero some_number) (λ j h. mine.range j (mine_of j h)) ((λ h. h), tt)))
       (idle_fits number passes k.log k.drawn k.served _ _ mine.seen
-      (λ j h. mine.own j (without_else n j v.numbers h).0) (λ j h. mine.range j (without_else n j v.numbers h).0)))
+      (λ j h. mine.own j (without_else n j v.numbers h).0) (λ some. mine.zero some_number) (λ j h. mine.range j (without_else n j v.numbers h).0) (once_without n v.numbers mine.once)))
       (apart_end views right
       (apart_set s.views id left k.apart (λ j u ne e. let a = k.apart id j v u (λ (z : id ≡ j). ne (sym z)) at e in record {
         numbers = λ x p q. a.numbers x (mine_of x p) q;

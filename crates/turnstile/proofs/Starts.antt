@@ -10,7 +10,7 @@ use Rattle.turnstile.specs.Turns.{newcomer, ViewFits, Apart, Kept}
 use Rattle.a1_base.specs.Lists.{entries_of}
 use Rattle.std.proofs.lemmas.Bool.{cond-true, cond-false}
 use Rattle.a1_base.proofs.Views.{each_alone}
-use Rattle.turnstile.proofs.Histories.{up_to_has, up_to_length, begins_itself}
+use Rattle.turnstile.proofs.Histories.{up_to_has, up_to_length, once_up_to, begins_itself}
 use Rattle.turnstile.proofs.Idles.{idle_fits}
 
 module _ {T E : Type 0} (stands : T → List E → Type 0) (number : E → ℕ) (passes : ℕ) (start : E) where
@@ -39,7 +39,7 @@ module _ {T E : Type 0} (stands : T → List E → Type 0) (number : E → ℕ) 
     zeros = of_zero is;
     no_more = λ k over. of_start k (λ (e : number start ≡ k). omega arith);
     fits = each_alone (ViewFits number passes (start ∷ []) 0 0) (newcomer passes start)
-        (idle_fits number passes (start ∷ []) 0 0 _ _ (begins_itself (start ∷ [])) (λ k h. refl) (λ k h. up_to_has k passes h));
+        (idle_fits number passes (start ∷ []) 0 0 _ _ (begins_itself (start ∷ [])) (λ k h. refl) (λ some. refl) (λ k h. up_to_has k passes h) (once_up_to passes));
     apart = no_two;
     slot = inl (value, refl, st, λ i v n e. each_alone (λ (z : View E). (m : ℕ) → z.stage ≡ Inside m → ⊥) (newcomer passes start) (λ m e. cc) i v e n);
   }

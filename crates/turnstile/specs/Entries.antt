@@ -13,6 +13,11 @@ abbrev pub up_to : ℕ → List ℕ
 up_to zero = []
 up_to (suc n) = suc n ∷ up_to n
 
+-- no number stands twice
+abbrev pub EachOnce : List ℕ → Type 0
+EachOnce [] = Unit {0}
+EachOnce (x ∷ xs) = (IsAmong x xs → ⊥) × EachOnce xs
+
 -- the numbers from 1 to n are among these
 abbrev pub HasAll : ℕ → List ℕ → Type 0
 HasAll n numbers = (k : ℕ) → 0 < k → k ≤ n → IsAmong k numbers

@@ -8,7 +8,7 @@ use Rattle.atomic_table.specs.Table.{State, Me, Step}
 use Rattle.turnstile.specs.declared.view.Stage.{Stage}
 use Rattle.turnstile.specs.declared.view.Stage.TheVariants.{Idle, Waits, Inside}
 use Rattle.turnstile.specs.declared.view.View.{View}
-use Rattle.turnstile.specs.Entries.{without, up_to, longer, shorter, SameOwn}
+use Rattle.turnstile.specs.Entries.{without, up_to, longer, shorter, SameOwn, EachOnce}
 use Rattle.a1_base.specs.Lists.{IsAmong, BeginsWith, entries_of}
 
 -- the words count modulo 2^64
@@ -73,7 +73,10 @@ pub record ViewFits {E : Type 0} (number : E → ℕ) (passes : ℕ) (log : List
   pub seen : BeginsWith log v.seen
   -- the entries of each number that it holds are those that it shows
   pub own : (k : ℕ) → IsAmong k v.numbers → entries_of number k log ≡ entries_of number k v.seen
+  -- and so is the first entry, where it holds any number
+  pub zero : 0 < length v.numbers → entries_of number 0 log ≡ entries_of number 0 v.seen
   pub range : (k : ℕ) → IsAmong k v.numbers → (0 < k) × (k ≤ passes)
+  pub once : EachOnce v.numbers
   -- a ticket is drawn and not yet served
   pub ticket : (n : ℕ) → HasTicket v.stage n → (served ≤ n) × (n < drawn) × (0 < length v.numbers)
   -- only the ticket that is served is inside, and knows the whole log
@@ -152,10 +155,10 @@ module _ {S E : Type 0} where
   abbrev pub gone : Step S → Me S (View E) → ℕ → Me S (View E) → Type 0
   gone st m n m' = Gone m m'
 
-  -- what was seen begins with what was heard, and hides no entries of the other's numbers
+  -- what was seen begins with what was heard, and hides no entries of the other's numbers, none of which is held twice
   abbrev pub Learned : (E → ℕ) → Me S (View E) → Me S (View E) → Type 0
   Learned number m m' =
-      BeginsWith m.0.seen m.0.heard × SameOwn number m.0.heard_numbers m.0.heard m.0.seen
+      BeginsWith m.0.seen m.0.heard × SameOwn number m.0.heard_numbers m.0.heard m.0.seen × EachOnce m.0.numbers
       × (m' ≡ (view m.0.stage m.0.numbers m.0.seen, m.1))
 
   abbrev pub learned : (E → ℕ) → Step S → Me S (View E) → ℕ → Me S (View E) → Type 0
@@ -166,11 +169,6 @@ abbrev pub IsDone : {T E : Type 0} → (T → List E → Type 0) → Me (Option 
 IsDone {T} stands m =
     (n : ℕ) × (y : T) × (m.0.stage ≡ Inside n) × (m.1 ≡ (0, Some y) ∷ []) × stands y m.0.seen
 
--- The value at the end stands for a log that begins with what was seen. What was seen has all entries of each number
--- from 1
--- on, and the log has no other entry of number 0 than the first
+-- the value at the end stands for what was seen, in which number 0 has the first entry alone
 abbrev pub ClosesWith : {T E : Type 0} → (T → List E → Type 0) → (E → ℕ) → E → T → List E → Type 0
-ClosesWith {T} {E} stands number start y seen =
-    (log : List E) × stands y log × BeginsWith log seen
-    × ((k : ℕ) → 0 < k → entries_of number k log ≡ entries_of number k seen)
-    × (entries_of number 0 log ≡ start ∷ [])
+ClosesWith {T} {E} stands number start y seen = stands y seen × (entries_of number 0 seen ≡ start ∷ [])

@@ -49,9 +49,8 @@ impl<T: Keeps> Turnstile<T> {
         }
     }
 
-    /// Takes the lock away, once all numbers have come back, and gives the value. It stands for a list that begins with
-    /// all that the pass had seen. The pass has seen the list's entries of each number from 1 on, and of number 0 the
-    /// list has its first entry alone.
+    /// Takes the lock away, once all numbers have come back, and gives the value. It stands for the list that the pass
+    /// has seen, in which number 0 has the first entry alone.
     pub fn close(self, pass: Pass<T>) -> T
         requires pass { IsPassOf self pass }
         requires all { HasAll (pass_count self) (numbers pass) }

@@ -43,12 +43,13 @@ impl<T: Keeps> Turnstile<T> {
         (Pass { seat }, Pass { seat: other })
     }
 
-    /// A pass with the numbers of both, which has seen the longer list. That list begins with what each had seen, and
-    /// has no other entries of its numbers.
+    /// A pass with the numbers of both, none of which both had, which has seen the longer list. That list begins with
+    /// what each had seen, and has no other entries of its numbers.
     pub fn join(&self, first: Pass<T>, second: Pass<T>) -> Pass<T>
         requires { IsPassOf self.now first × IsPassOf self.now second }
         ensures pass { IsPassOf self.now result }
         ensures numbers { numbers result ≡ numbers first ++ numbers second }
+        ensures apart { (k : ℕ) → IsAmong k (numbers first) → IsAmong k (numbers second) → ⊥ }
         ensures seen { seen result ≡ longer (seen first) (seen second) }
         ensures begins { BeginsWith (seen result) (seen first) × BeginsWith (seen result) (seen second) }
         ensures own { SameOwn T.number (numbers first) (seen first) (seen result)

@@ -12,6 +12,6 @@ close-requires g c =
     let pushed : c.push.new.self.items ≡ others ++ c.now-2.new.seat ∷ [] = search rules in
     let lanes_of : Watch → List ℕ = λ v. v.lanes in
     let lanes : (watch c.now-2.new.seat).lanes ≡ (watch c.in_ok-seat.seat).lanes =
-    ap lanes_of c.now-2.ensures.learned.1 ∙ ap lanes_of c.reach.ensures.learned.1 ∙ c.draw.ensures.lanes ∙ ap lanes_of c.now.ensures.learned.1 in
+    ap lanes_of c.now-2.ensures.learned.2 ∙ ap lanes_of c.reach.ensures.learned.2 ∙ c.draw.ensures.lanes ∙ ap lanes_of c.now.ensures.learned.2 in
     subst (λ (z : List StampSeat). HaveAllLanes c.in_ok-stamps.stamps z) (sym pushed)
     (given_back c.in_ok-stamps.stamps others c.in_ok-seat.seat c.now-2.new.seat (subst (λ (z : List StampSeat). HaveAllLanes c.in_ok-stamps.stamps z) popped c.in_ok-stamps.ensures.lanes) c.now-2.ensures.seat lanes)

@@ -13,6 +13,6 @@ close-marks-requires-clause-all g c =
 pub returns : goal.returns
 returns g c = elim c.if-all_wrote.branch [
   | then-all_wrote w ↦ subst (λ r. IfSome r (λ marks. HasEach c.args.writers c.args.times marks.items)) (sym w.result-is)
-      (let e = c.close-marks.ensures in closed c.args.writers c.args.times _ _ _ e.0 c.in-Ok.ensures.pass.2 e.1 e.3 (c.write_by_each-pass.ensures.written w.if-all_wrote.true))
+      (closed c.args.writers c.args.times _ _ _ c.in-Ok.ensures.pass.2 c.close-marks.ensures.0 (c.write_by_each-pass.ensures.written w.if-all_wrote.true))
   | else-all_wrote w ↦ subst (λ r. IfSome r (λ marks. HasEach c.args.writers c.args.times marks.items)) (sym w.result-is) tt
 ]
