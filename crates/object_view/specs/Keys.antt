@@ -23,7 +23,8 @@ Below k None = ⊤
 Below k (Some b) = compare k b ≡ Less
 
 -- items that stand one behind another between two bounds
-abbrev pub Path : {A : Type 0} → (Bound → Bound → Type 0) → (Bound → A → Bound → Type 0) → Bound → List A → Bound → Type 0
+abbrev pub Path : {A : Type 0} → (Bound → Bound → Type 0) → (Bound → A → Bound → Type 0) → Bound → List A → Bound
+    → Type 0
 Path E S lo [] hi = E lo hi
 Path E S lo (x ∷ xs) hi = (mid : Bound) × S lo x mid × Path E S mid xs hi
 
@@ -40,7 +41,8 @@ lookup k (e ∷ es) = by_order (compare e.key k) (lookup k es) (Some e.word) Non
 -- the pairs with one more, or with another word at the key
 abbrev pub inserted : List ℕ → ℕ → List Entry → List Entry
 inserted k v [] = record { key = k; word = v } ∷ []
-inserted k v (e ∷ es) = by_order (compare e.key k) (e ∷ inserted k v es) (record { key = k; word = v } ∷ es) (record { key = k; word = v } ∷ e ∷ es)
+inserted k v (e ∷ es) = by_order (compare e.key k) (e ∷ inserted k v es) (record { key = k; word = v } ∷ es)
+    (record { key = k; word = v } ∷ e ∷ es)
 
 -- the pairs without the key
 abbrev pub removed : List ℕ → List Entry → List Entry

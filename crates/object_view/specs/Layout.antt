@@ -44,7 +44,14 @@ head_at kind (b ∷ bytes) = cond (eqb b kind) (owner_at bytes) None
 
 -- reading an entry from the front
 unfoldable pub key_at : ℕ → List ℕ → Option (Entry × List ℕ)
-key_at n bytes = cond (ltb (length bytes) (n + 8)) None (Some (record { key = take n bytes; word = from_be_bytes w64 (take 8 (drop n bytes)) }, drop 8 (drop n bytes)))
+key_at n bytes = cond (ltb (length bytes) (n + 8)) None (Some (
+  record {
+    key = take n bytes;
+    word = from_be_bytes w64
+        (take 8 (drop n bytes));
+  },
+  drop 8 (drop n bytes),
+))
 
 unfoldable pub entry_at : List ℕ → Option (Entry × List ℕ)
 entry_at bytes = cond (ltb (length bytes) 2) None (key_at (from_be_bytes w16 (take 2 bytes)) (drop 2 bytes))

@@ -78,7 +78,8 @@ Distinct [] = ⊤
 Distinct (a ∷ bs) = (IsAmong a bs → ⊥) × Distinct bs
 
 -- a branch stands between two bounds, with at least so many entries in its own node
-pub record Sub (R : Addr → Bool) (s : State) (owner least d : ℕ) (lo : Bound) (b : Branch (Item d)) (hi : Bound) : Type 0 where
+pub record Sub (R : Addr → Bool) (s : State) (owner least d : ℕ) (lo : Bound) (b : Branch (Item d))
+    (hi : Bound) : Type 0 where
   pub spans : Spans (suc d) lo b hi
   pub node : Node R s owner least (addr_of b.word) (map (spell d) b.items)
   pub stand : Stand R s owner d b.items
