@@ -1,9 +1,11 @@
 pub mod Addresses
 pub mod Agreed
 pub mod Held
+pub mod Layouts
 pub mod Listed
 pub mod Looking
 pub mod Moving
 pub mod Places
 pub mod Settled
+pub mod Standing
 pub mod Writing

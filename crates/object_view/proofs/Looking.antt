@@ -6,6 +6,8 @@ use Rattle.a1_base.specs.declared.place.Addr.{Addr}
 use Rattle.object_view.specs.declared.view.Object.{Object}
 use Rattle.object_view.specs.Agreement.{Seen, Write, Heap, Overlay, Agrees, IsSeenIn, bytes_of, covered, stood}
 use Rattle.object_view.specs.Calls.{ReadTells, StandsIn, noted}
+use Rattle.object_view.specs.Parts.{ReadsOnly}
+use Rattle.std.proofs.lemmas.List.{append-nil}
 
 front : (h : Heap) (xs ys : List Seen) → AllByRecursion (IsSeenIn h) (xs ++ ys) → AllByRecursion (IsSeenIn h) xs
 front h [] ys p = tt
@@ -51,4 +53,21 @@ read_stands old new before after a o same told h agrees =
     let there : Some o.bytes ≡ stood h before a = read_found h old new before after a (Some o) same told agrees in
     subst IsSome (there ∙ ap (λ (over : Overlay). stood h over a) (sym same)) refl
 
-pub ruleset read_rules = (read_found, read_stands, read_agrees, same_agrees)
+noted_at : (a : Addr) (stamp : ℕ) (found : Option Object) → (noted a stamp found).at ≡ a
+noted_at a stamp None = refl
+noted_at a stamp (Some o) = refl
+
+pub reads_none : (P : Addr → Type 0) (old new : List Seen) → new ≡ old → ReadsOnly P old new
+reads_none P old new same = record { reads = []; grown = same ∙ sym (append-nil old); among = tt }
+
+reads_in : (w : Option Write) (a : Addr) (old new : List Seen) (found : Option Object)
+    → ReadTells w a old new found → ReadsOnly (λ b. b ≡ a) old new
+reads_in (Some w) a old new found told = reads_none (λ b. b ≡ a) old new told.0
+reads_in None a old new found (stamp, e) =
+    record { reads = noted a stamp found ∷ []; grown = e; among = (noted_at a stamp found, tt) }
+
+pub read_only : (over : Overlay) (a : Addr) (old new : List Seen) (found : Option Object)
+    → ReadTells (over a) a old new found → ReadsOnly (λ b. b ≡ a) old new
+read_only over a old new found told = reads_in (over a) a old new found told
+
+pub ruleset read_rules = (read_found, read_stands, read_agrees, same_agrees, reads_none, read_only)

@@ -2,5 +2,8 @@ pub mod Agreement
 pub mod Calls
 pub mod Faults
 pub mod Held
+pub mod Keys
+pub mod Layout
 pub mod Parts
 pub mod Slots
+pub mod Trees

@@ -1,5 +1,6 @@
 -- What the structures over a view say of their calls.
-use Rattle.std.specs.Prelude.{◌≡◌, ◌⊎◌, ℕ, Bool, true, cond, List, Option, Some, None, Result, Ok, Err, ⊤}
+use Rattle.std.specs.Prelude.{◌≡◌, ◌⊎◌, ℕ, Bool, true, cond, List, ◌++◌, Option, Some, None, Result, Ok, Err, ⊤}
+use Rattle.std.specs.List.{AllByRecursion}
 use Rattle.a1_base.specs.Lists.{IsAmong}
 use Rattle.a1_base.specs.declared.place.Addr.{Addr}
 use Rattle.object_view.specs.declared.parts.PartFault.{PartFault}
@@ -12,6 +13,12 @@ pub record Onward {S K : Type 0} (trace : S → List Seen) (overlay : S → Over
     → Bool) (number : S → ℕ) (keep : S → K) (old new : S) : Type 0 where
   pub agreed : (h : Heap) → Agrees h (trace new) (overlay new) → Agrees h (trace old) (overlay old)
   pub steady : IsSteady reach number keep old new
+
+-- from a trace to a later one: what was read besides, each read at such an address
+pub record ReadsOnly (P : Addr → Type 0) (old new : List Seen) : Type 0 where
+  pub reads : List Seen
+  pub grown : new ≡ old ++ reads
+  pub among : AllByRecursion (λ s. P s.at) reads
 
 -- with other bytes, or none, at an address
 abbrev pub with_bytes : Addr → Option (List ℕ) → State → State

@@ -3,12 +3,12 @@ ghost use Rattle.std.specs.Prelude.{◌≡◌, ◌⊎◌, ◌<◌, ◌%◌, true
 ghost use Rattle.a1_base.specs.declared.place.Addr.{Addr};
 ghost use Rattle.object_view.specs.Agreement.{Heap, Agrees, stood};
 ghost use Rattle.object_view.specs.Calls.{StandsIn, IsPlace, IsObject};
-ghost use Rattle.object_view.specs.Parts.{Onward, LookTells, with_bytes};
+ghost use Rattle.object_view.specs.Parts.{Onward, ReadsOnly, LookTells, with_bytes};
 ghost use Rattle.object_view.specs.declared.parts.PartFault.TheVariants as fault;
 
 use crate::view::{View, ViewFault};
 use a1_base::{Addr, Bin};
-use std::alloc::Global;
+use std::alloc::{AllocError, Global};
 use std::sync::Wait;
 
 /// Why a structure gave no answer.
@@ -37,6 +37,14 @@ impl From<ViewFault> for PartFault {
     }
 }
 
+impl From<AllocError> for PartFault {
+    ghost from_gives = { λ _ part. part ≡ fault.Memory };
+
+    fn from(_: AllocError) -> Self {
+        PartFault::Memory
+    }
+}
+
 /// The bytes of the object at an address. `Torn` comes where the view does not serve the address, or has no object
 /// there; `Memory` for want of memory alone.
 #[tactic(auto, using(crate::proofs::Looking::read_rules))]
@@ -50,6 +58,7 @@ pub fn look<V: View, R: Wait>(
         (V.reaches view.old (at.region % V.count view.old)) (stood h (V.overlay view.old) at) result }
     ensures stands { OnOk result (StandsIn (V.trace view.new) (V.overlay view.new) at) }
     ensures served { OnOk result (V.reaches view.new (at.region % V.count view.new) ≡ true) }
+    ensures reads { ReadsOnly (λ b. b ≡ at) (V.trace view.old) (V.trace view.new) }
     ensures overlay { V.overlay view.new ≡ V.overlay view.old }
     ensures onward { Onward V.trace V.overlay V.reaches V.count V.kept view.old view.new }
 {
