@@ -109,6 +109,15 @@ asks hops 100000 30 1000 "two hops over 30 times 30 edges"
 asks drop 10000 0 3000 "with an edge to the next each, of which some go"
 asks drop 100000 0 3000 "with an edge to the next each, of which some go"
 
+# Vertices with the ids 0 to 100,000, and then a query whose set would have one too many, and one that counts 100,000 of them.
+awk 'BEGIN {
+    print "1 {\"do\":[{\"create_tenant\":\"t\"},{\"create_graph\":\"t/g\"},{\"create_vertex_type\":{\"graph\":\"t/g\",\"type\":\"n\",\"attrs\":[{\"name\":\"id\",\"kind\":\"int\"}]}}]}"
+    for (i = 0; i <= 100000; i++) printf "%s{\"put\":{\"graph\":\"t/g\",\"type\":\"n\",\"v\":{\"id\":%d}}}%s", (i % 1024 ? "," : "1 {\"do\":["), i, (i % 1024 == 1023 || i == 100000 ? "]}\n" : "")
+    print "1 {\"ask\":{\"_type\":\"n\"},\"graph\":\"t/g\"}"
+    print "1 {\"ask\":{\"_type\":\"n\",\"id\":{\"_ge\":1},\"_select\":[\"_count(*)\"]},\"graph\":\"t/g\"}"
+}' > "$folder/script"
+measure "100,001 vertices, and then two queries over all of them"
+
 # Rounds of 35 transactions side by side: each reads an object, locks another, and installs it where what it read still
 # stands. Each round collects on one node.
 events='function line(text) { if (n++ < count) print text }
