@@ -1,10 +1,12 @@
 -- The objects of a node as a function of addresses, and what changes of it keep.
 use Rattle.farm_node.proofs.Common.{◌≡◌, ℕ, max, cond, Bool, true, false, not, ◌&&◌, ◌||◌, List, [], Option, Some, None, Result, Ok, Err, is_some, OnOk, OnErr}
-use Rattle.farm_node.proofs.Common.{sym, refl, ap, ◌∙◌, subst, cond-false, or_right, BTreeMap, WritesThrough, is_at, list_any, lookup, Memory, Addr, same_addr}
-use Rattle.farm_node.proofs.Common.{Occupancy, without_place, addr_order, vacant, with_place, Hold, Cell, is_open, is_single, is_settled, NodeState, set_cell}
-use Rattle.farm_node.proofs.Common.{places, cells_of, plain_from, AgreesWith, IsTracked, settled_there, with_cell, given_back}
+use Rattle.farm_node.proofs.Common.{sym, refl, ap, ◌∙◌, subst, cond-false, BTreeMap, WritesThrough, is_at, lookup, values_of, Memory, Addr, same_addr}
+use Rattle.farm_node.proofs.Common.{Occupancy, without_place, addr_order, vacant, with_place, Cell, NodeState, set_cell}
+use Rattle.farm_node.proofs.Common.{places, cells_of, plain_from, AgreesWith, IsTracked, waits_there, held_in, lock_count, with_cell, given_back}
+use Rattle.std.specs.List.{sum_by}
 use Rattle.std.specs.Option.{IsSome}
 use Rattle.farm_node.proofs.Addresses.{set_cases}
+use Rattle.farm_node.proofs.Dues.{tracked_set}
 
 pub cells_written : (objects later : BTreeMap Addr Cell) (a : Addr) (c w : Cell) → Some c ≡ cells_of objects a
     → WritesThrough addr_order (addr_order a) objects w later → cells_of later ≡ set_cell a (Some w) (cells_of objects)
@@ -16,15 +18,11 @@ pub agrees_empty : (objects : BTreeMap Addr Cell) (places : Occupancy) (node nod
 agrees_empty objects places node nodes none same = λ a.
     ap (λ (o : Occupancy). o.taken a) same ∙ ap (λ (es : List (Addr × Cell)). is_some (lookup (is_at (addr_order a)) es)) (sym none)
 
-pub tracked_empty : (objects : BTreeMap Addr Cell) (touched : List Addr) → objects.entries ≡ [] → IsTracked (cells_of objects) touched
-tracked_empty objects touched none = λ a. ap (λ (es : List (Addr × Cell)). settled_there (lookup (is_at (addr_order a)) es) || list_any (same_addr a) touched) none
+pub tracked_empty : (objects : BTreeMap Addr Cell) (listed : ℕ → Addr → Bool) → objects.entries ≡ [] → IsTracked (cells_of objects) listed
+tracked_empty objects listed none = λ a. ap (λ (es : List (Addr × Cell)). waits_there (λ s. listed s a) (lookup (is_at (addr_order a)) es)) none
 
-locked_loose : (c : Cell) → is_open c.lock ≡ false → is_settled c ≡ false
-locked_loose c e = ap (λ (g : Bool). g && is_single c.versions) e
-
-abbrev lock_of : Option Cell → Option Hold
-lock_of None = None
-lock_of (Some x) = x.lock
+pub locks_empty : (objects : BTreeMap Addr Cell) → objects.entries ≡ [] → 0 ≡ lock_count objects
+locks_empty objects none = sym (ap (λ (es : List (Addr × Cell)). sum_by held_in (values_of es)) none)
 
 module _ (cells cells' : Addr → Option Cell) where
   -- the map and the places agree: where what is there changes, where an object comes, and where one goes
@@ -43,27 +41,6 @@ module _ (cells cells' : Addr → Option Cell) where
   pub agrees_without : (places places' : Occupancy) (a : Addr) → AgreesWith cells places → cells' ≡ set_cell a None cells → places' ≡ without_place a places → AgreesWith cells' places'
   agrees_without places places' a agrees e without = subst (λ (z : (Addr → Option Cell) × Occupancy). AgreesWith z.0 z.1) (λ i. (sym e i, sym without i))
       (λ b. elim (same_addr a b) as (λ g. (not g && places.taken b) ≡ is_some (cond g None (cells b))) [ true ↦ refl | false ↦ agrees b ])
-
-  -- whatever is not settled stands in the list
-
-  pub tracked_set : (touched : List Addr) (a : Addr) (c : Option Cell) → IsTracked cells touched → cells' ≡ set_cell a c cells
-      → (settled_there c || list_any (same_addr a) touched) ≡ true → IsTracked cells' touched
-  tracked_set touched a c tracked e here = subst (λ (z : Addr → Option Cell). IsTracked z touched) (sym e)
-      (λ b. set_cases (λ z d. (settled_there d || list_any (same_addr z) touched) ≡ true) a b c cells here (λ apart. tracked b))
-
-  -- a change that leaves a cell as settled as it was
-  pub tracked_kept : (touched : List Addr) (a : Addr) (c w : Cell) → IsTracked cells touched → Some c ≡ cells a → cells' ≡ set_cell a (Some w) cells → is_settled w ≡ is_settled c
-      → IsTracked cells' touched
-  tracked_kept touched a c w tracked there e same = tracked_set touched a (Some w) tracked e
-      (ap (λ (g : Bool). g || list_any (same_addr a) touched) same ∙ (ap (λ (o : Option Cell). settled_there o || list_any (same_addr a) touched) there ∙ tracked a))
-
-  -- what was held was not settled, so it may change in any way
-  pub tracked_held : (touched : List Addr) (a : Addr) (c d : Cell) (h : Hold) (o : Option Cell) → IsTracked cells touched → Some c ≡ cells a → cells a ≡ Some d → d.lock ≡ Some h
-      → cells' ≡ set_cell a o cells → IsTracked cells' touched
-  tracked_held touched a c d h o tracked there is lock e =
-      let loose : is_settled c ≡ false = locked_loose c (ap is_open (ap lock_of (there ∙ is) ∙ lock)) in
-      tracked_set touched a o tracked e (or_right (settled_there o) (list_any (same_addr a) touched)
-      (sym (ap (λ (g : Bool). g || list_any (same_addr a) touched) loose) ∙ (ap (λ (o : Option Cell). settled_there o || list_any (same_addr a) touched) there ∙ tracked a)))
 
   -- a write of what was there, and an object that was put and taken again
 
@@ -90,20 +67,10 @@ module _ (cells cells' : Addr → Option Cell) (places places' : Occupancy) (a :
   agrees_inserted (Ok u) agrees ok err = agrees_with cells cells' places places' a c agrees ok.0 ok.1
   agrees_inserted (Err m) agrees ok err = agrees_same cells cells' places places' agrees err.0 err.1
 
-  pub tracked_inserted : (touched : List Addr) (result : Result (Unit {0}) Memory) → IsTracked cells touched → (is_settled c || list_any (same_addr a) touched) ≡ true
-      → OnOk result Puts → OnErr result Leaves → IsTracked cells' touched
-  tracked_inserted touched (Ok u) tracked here ok err = tracked_set cells cells' touched a (Some c) tracked ok.0 here
-  tracked_inserted touched (Err m) tracked here ok err = subst (λ (z : Addr → Option Cell). IsTracked z touched) (sym err.0) tracked
-
-  pub plain_inserted : (pins : List (Option ℕ)) (past floor actors : ℕ) (result : Result (Unit {0}) Memory) → OnOk result Puts
-      → OnOk result (plain_from cells' places' pins past floor actors ≡ with_cell a c (plain_from cells places pins past floor actors))
-  plain_inserted pins past floor actors (Ok u) ok = λ i. plain_from (ok.0 i) (ok.1 i) pins past floor actors
-  plain_inserted pins past floor actors (Err m) ok = tt
-
-  pub plain_refused : (pins : List (Option ℕ)) (past floor actors : ℕ) (result : Result (Unit {0}) Memory) → OnErr result Leaves
-      → OnErr result (plain_from cells' places' pins past floor actors ≡ plain_from cells places pins past floor actors)
-  plain_refused pins past floor actors (Ok u) err = tt
-  plain_refused pins past floor actors (Err m) err = λ i. plain_from (err.0 i) (err.1 i) pins past floor actors
+  pub tracked_inserted : (listed : ℕ → Addr → Bool) (result : Result (Unit {0}) Memory) → IsTracked cells listed → waits_there (λ s. listed s a) (Some c) ≡ true
+      → OnOk result Puts → OnErr result Leaves → IsTracked cells' listed
+  tracked_inserted listed (Ok u) tracked here ok err = tracked_set cells cells' listed a (Some c) tracked ok.0 here
+  tracked_inserted listed (Err m) tracked here ok err = subst (λ (z : Addr → Option Cell). IsTracked z listed) (sym err.0) tracked
 
 -- nothing to give back
 pub none_given_back : (p : NodeState) (cells : Addr → Option Cell) (a : Addr) → None ≡ p.cells a → cells ≡ set_cell a None p.cells → record p { cells = cells } ≡ given_back a p

@@ -32,14 +32,15 @@ pub use Rattle.farm_node.specs.declared.entry.Entry.{Entry}
 pub use Rattle.farm_node.specs.declared.entry.Entry.TheVariants.{Made, Open, Shut, Read, Alloc, Lock, Check, Put, Unlock, Collect}
 pub use Rattle.farm_node.specs.Cell.{Bytes, Cell, is_open, same_txn, found_of, found_at, read_answer, raised_to, past_raised, made_by, loaded_cell, locked_by}
 pub use Rattle.farm_node.specs.Cell.{unless_changed, lock_given, lock_answer, check_answer, pending_of, installed, released, past_released, is_absent, is_gone, goes}
-pub use Rattle.farm_node.specs.Cell.{is_single, is_settled, collected, past_collected, objects_in, versions_in}
+pub use Rattle.farm_node.specs.Cell.{is_newest_absent, collected, past_collected, objects_in, versions_in}
 pub use Rattle.farm_node.specs.NodeState.{NodeState, set_cell, set_pin, places_in, places, total, object_count, version_count, lesser, least_pin, new_floor, past_over}
 pub use Rattle.farm_node.specs.NodeState.{after_collect, counted, PinnedBy, HeldBy, HeldNew, HasValue, MayLock, MayPut, FitsLock, FitsCheck, Fits, looked_at, after, Adds}
 pub use Rattle.farm_node.specs.NodeState.{loaded_cells, loaded_regions, begun, Loads, IsStart, replay_from, LawfulFrom, replay, Lawful}
 pub use Rattle.farm_node.specs.Story.{Given, gives, Installed, Story, with_given, with_put, story_after, story_from, nobody, loaded_puts, untold, story_begun, story}
 pub use Rattle.farm_node.specs.Story.{version_of, versions_of, stamped_bytes, value_at, number_of}
-pub use Rattle.farm_node.specs.Laws.{versions_there, Spares, PutsAt, KeepsLock, Decides, MineDecides, ReadsHold, PinsHold}
+pub use Rattle.farm_node.specs.Laws.{Spares, PutsAt, KeepsLock, Decides, MineDecides, ReadsHold, PinsHold}
 pub use Rattle.farm_node.specs.Locks.{IsOther, Takes, BlamesHolder, BlamesPut, StampsBelow, AnswersStamps}
-pub use Rattle.farm_node.specs.State.{cells_of, plain_from, AgreesWith, IsTracked, settled_there, with_cell, with_objects, CanLoad, has_lock, goes_there, bound_there}
+pub use Rattle.farm_node.specs.State.{cells_of, plain_from, AgreesWith, versions_there, leaves_old, with_cell, with_objects, CanLoad, has_lock, goes_there, bound_there}
 pub use Rattle.farm_node.specs.State.{SweepsCell, SweepsNext, collected_at, past_with, given_back, holds_there, has_value, is_new, may_lock}
 pub use Rattle.farm_node.specs.Node.{plain_of, StandsFor}
+pub use Rattle.farm_node.specs.Waiting.{is_mark, marked, olds_wait, absent_waits, waits_there, IsTracked, held_in, held_there, lock_count}

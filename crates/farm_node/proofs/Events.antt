@@ -1,21 +1,31 @@
 -- Events on one cell, as entries of the node.
 use Rattle.farm_node.proofs.Common.{◌≡◌, ℕ, max, Option, Some, None, Result, Ok, Err, OnOk, OnErr, sym, ap, ◌∙◌, Memory, Addr, TxnId, IsStamp, Found}
-use Rattle.farm_node.proofs.Common.{CheckFault, Check, Cell, read_answer, raised_to, past_raised, check_answer, is_settled, NodeState, set_cell, PinnedBy}
+use Rattle.farm_node.proofs.Common.{CheckFault, Check, Cell, read_answer, raised_to, past_raised, check_answer, held_in, NodeState, set_cell, PinnedBy}
 use Rattle.farm_node.proofs.Common.{HeldBy, looked_at, after, Adds}
 use Rattle.farm_node.specs.declared.faults.ReadFault.{ReadFault}
 use Rattle.farm_node.specs.declared.faults.ReadFault.TheVariants.{Held as ReadHeld, Memory as NoReadMemory}
 use Rattle.farm_node.specs.Answers.{read_entry, ReadsCell, AddsIfMade}
+use Rattle.farm_node.specs.Waiting.{Waits}
 use Rattle.farm_node.proofs.CellMaps.{cells_same, unset}
 use Rattle.farm_node.proofs.Sound.{pinned}
 
-pub reads_settled : (s : ℕ) (c w : Cell) (result : Result Found ReadFault) → ReadsCell s c result w → is_settled w ≡ is_settled c
-reads_settled s c w (Ok found) reads = ap is_settled reads.1
-reads_settled s c w (Err (ReadHeld by)) reads = ap is_settled reads.1
-reads_settled s c w (Err NoReadMemory) same = ap is_settled same
+pub reads_versions : (s : ℕ) (c w : Cell) (result : Result Found ReadFault) → ReadsCell s c result w → w.versions ≡ c.versions
+reads_versions s c w (Ok found) reads = ap (λ (x : Cell). x.versions) reads.1
+reads_versions s c w (Err (ReadHeld by)) reads = ap (λ (x : Cell). x.versions) reads.1
+reads_versions s c w (Err NoReadMemory) same = ap (λ (x : Cell). x.versions) same
 
-pub check_settled : (v : ℕ) (c w : Cell) (result : Result (Unit {0}) CheckFault) → OnOk result (w ≡ record c { bound = max c.bound v }) → OnErr result (w ≡ c) → is_settled w ≡ is_settled c
-check_settled v c w (Ok u) same other = ap is_settled same
-check_settled v c w (Err f) same other = ap is_settled other
+pub check_versions : (v : ℕ) (c w : Cell) (result : Result (Unit {0}) CheckFault) → OnOk result (w ≡ record c { bound = max c.bound v }) → OnErr result (w ≡ c) → w.versions ≡ c.versions
+check_versions v c w (Ok u) same other = ap (λ (x : Cell). x.versions) same
+check_versions v c w (Err f) same other = ap (λ (x : Cell). x.versions) other
+
+pub reads_locks : (s : ℕ) (c w : Cell) (result : Result Found ReadFault) → ReadsCell s c result w → held_in w ≡ held_in c
+reads_locks s c w (Ok found) reads = ap held_in reads.1
+reads_locks s c w (Err (ReadHeld by)) reads = ap held_in reads.1
+reads_locks s c w (Err NoReadMemory) same = ap held_in same
+
+pub check_locks : (v : ℕ) (c w : Cell) (result : Result (Unit {0}) CheckFault) → OnOk result (w ≡ record c { bound = max c.bound v }) → OnErr result (w ≡ c) → held_in w ≡ held_in c
+check_locks v c w (Ok u) same other = ap held_in same
+check_locks v c w (Err f) same other = ap held_in other
 
 module _ (p : NodeState) (cells : Addr → Option Cell) (a : Addr) where
   abbrev new : NodeState
@@ -44,9 +54,9 @@ module _ (p : NodeState) (cells : Addr → Option Cell) (a : Addr) where
         by (Ok u) same other = looked_there v c w there e same
         by (Err f) same other = unchanged c w there e other
 
-  pub hold_refused : (c w : Cell) (result : Result (Unit {0}) Memory) → Some c ≡ p.cells a → cells ≡ set_cell a (Some w) p.cells → OnErr result (w ≡ c) → OnErr result (new ≡ p)
-  hold_refused c w (Ok u) there e err = tt
-  hold_refused c w (Err m) there e err = unchanged c w there e err
+  pub hold_refused : (c w : Cell) (W W' : Waits) (result : Result (Unit {0}) Memory) → Some c ≡ p.cells a → cells ≡ set_cell a (Some w) p.cells → OnErr result ((w ≡ c) × (W' ≡ W)) → OnErr result (new ≡ p)
+  hold_refused c w W W' (Ok u) there e err = tt
+  hold_refused c w W W' (Err m) there e err = unchanged c w there e err.0
 
 -- and where none is
 pub check_nowhere : (p : NodeState) (cells : Addr → Option Cell) (past : ℕ) (a : Addr) (t : TxnId) (r v : ℕ) → None ≡ p.cells a → cells ≡ p.cells → past ≡ max p.past v

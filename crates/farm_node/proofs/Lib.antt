@@ -15,6 +15,8 @@ pub mod Answered
 pub mod Blames
 pub mod CellMaps
 pub mod Events
+pub mod Dues
+pub mod Marks
 pub mod Loads
 pub mod Sweeps
 pub mod Totals
@@ -22,3 +24,4 @@ pub mod Sweeping
 pub mod Counts
 pub mod Standing
 pub mod Holders
+pub mod Owning

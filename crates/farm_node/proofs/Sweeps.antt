@@ -1,11 +1,10 @@
 -- Collecting at one address after another.
-use Rattle.farm_node.proofs.Common.{◌≡◌, ◌⊎◌, ℕ, ◌+◌, max, cond, Bool, true, false, not, ◌||◌, List, [], ◌∷◌, ◌++◌, Option, Some, None, is_some, sym, refl, ap}
-use Rattle.farm_node.proofs.Common.{◌∙◌, subst, inl, inr, ⊎_elim, cond_both, or_left, or_right, or_cases, both_ways, list_any, Addr, same_addr, Occupancy}
-use Rattle.farm_node.proofs.Common.{without_place, cut, Cell, goes, collected, past_collected, versions_in, set_cell, places, plain_from, AgreesWith, IsTracked}
-use Rattle.farm_node.proofs.Common.{settled_there, goes_there, bound_there, SweepsCell, SweepsNext, past_with}
+use Rattle.farm_node.proofs.Common.{◌≡◌, ℕ, ◌+◌, max, cond, true, false, List, Option, Some, None, is_some, sym, refl, ap}
+use Rattle.farm_node.proofs.Common.{◌∙◌, subst, cond-false, length, is_gone, Addr, Occupancy}
+use Rattle.farm_node.proofs.Common.{without_place, cut, Cell, goes, collected, past_collected, versions_in, set_cell, plain_from, AgreesWith}
+use Rattle.farm_node.proofs.Common.{goes_there, bound_there, SweepsCell, SweepsNext, past_with}
 use Rattle.farm_node.specs.declared.swept.Swept.{Swept}
-use Rattle.std.proofs.lemmas.List.Folds.{list_any-append}
-use Rattle.farm_node.proofs.Addresses.{same_self, same_turned, set_cases, set_self}
+use Rattle.farm_node.proofs.Addresses.{set_self}
 use Rattle.farm_node.proofs.CellMaps.{agrees_set, agrees_without}
 
 pub agrees_swept : (cells cells' : Addr → Option Cell) (places places' : Occupancy) (a : Addr) (floor : ℕ) (swept : Swept) → AgreesWith cells places
@@ -23,24 +22,6 @@ agrees_swept cells cells' places places' a floor swept agrees e sweeps given =
           → cells' ≡ set_cell a (cond g None (Some (record c { versions = cut floor c.versions }))) cells → AgreesWith cells' places')
           [ true ↦ λ given e. agrees_without cells cells' places places' a agrees e given | false ↦ λ given e. kept _ (ap is_some there) given e ] given e
 
-pub tracked_swept : (cells cells' : Addr → Option Cell) (touched touched' rest : List Addr) (a : Addr) (floor : ℕ) (swept : Swept) → IsTracked cells touched → touched ≡ a ∷ rest
-    → cells' ≡ set_cell a (collected floor (cells a)) cells → SweepsCell floor (cells a) swept → touched' ≡ cond swept.stays (rest ++ a ∷ []) rest → IsTracked cells' touched'
-tracked_swept cells cells' touched touched' rest a floor swept tracked front e sweeps kept =
-    subst (λ (z : (Addr → Option Cell) × List Addr). IsTracked z.0 z.1) (λ i. (sym e i, sym kept i))
-    (λ b. set_cases (λ z d. (settled_there d || list_any (same_addr z) (cond swept.stays (rest ++ a ∷ []) rest)) ≡ true) a b _ cells here (there b)) where
-      here : (settled_there (collected floor (cells a)) || list_any (same_addr a) (cond swept.stays (rest ++ a ∷ []) rest)) ≡ true
-      here = subst (λ (s : Bool). (settled_there (collected floor (cells a)) || list_any (same_addr a) (cond s (rest ++ a ∷ []) rest)) ≡ true) (sym sweeps.stays)
-          (elim (settled_there (collected floor (cells a))) as (λ g. (g || list_any (same_addr a) (cond (not g) (rest ++ a ∷ []) rest)) ≡ true)
-          [ true ↦ refl | false ↦ list_any-append (same_addr a) rest (a ∷ []) ∙ or_right _ _ (or_left _ _ (same_self a)) ])
-
-      behind : (b : Addr) → list_any (same_addr b) rest ≡ true → list_any (same_addr b) (cond swept.stays (rest ++ a ∷ []) rest) ≡ true
-      behind b is = cond_both swept.stays _ _ (λ l. list_any (same_addr b) l ≡ true) (λ s. list_any-append (same_addr b) rest (a ∷ []) ∙ or_left _ _ is) (λ s. is)
-
-      there : (b : Addr) → same_addr a b ≡ false → (settled_there (cells b) || list_any (same_addr b) (cond swept.stays (rest ++ a ∷ []) rest)) ≡ true
-      there b apart = ⊎_elim (λ settled. or_left _ _ settled)
-          (λ waits. or_right _ _ (⊎_elim (λ (is : same_addr b a ≡ true). absurd (both_ways (same_addr a b) apart (same_turned b a is))) (λ is. behind b is) (or_cases (same_addr b a) _ waits)))
-          (or_cases (settled_there (cells b)) (list_any (same_addr b) (a ∷ rest)) (subst (λ (l : List Addr). (settled_there (cells b) || list_any (same_addr b) l) ≡ true) front (tracked b)))
-
 -- the places given back keep their regions
 given_regions : (a : Addr) (places : Occupancy) (gone : Option ℕ) → cond (is_some gone) (without_place a places) places ≡ record places { taken = (cond (is_some gone) (without_place a places) places).taken }
 given_regions a places None = refl
@@ -50,22 +31,31 @@ past_gone : (floor : ℕ) (c : Option Cell) (past : ℕ) → past_with (cond (go
 past_gone floor None past = refl
 past_gone floor (Some c) past = elim (goes floor c) as (λ g. past_with (cond g (Some c.bound) None) past ≡ cond g (max c.bound past) past) [ true ↦ refl | false ↦ refl ]
 
-some_gone : (g : Bool) (b : ℕ) → is_some (cond g (Some b) None) ≡ g
-some_gone g b = elim g as (λ g. is_some (cond g (Some b) None) ≡ g) [ true ↦ refl | false ↦ refl ]
+pub some_gone : (floor : ℕ) (c : Option Cell) (swept : Swept) → SweepsCell floor c swept → is_some swept.gone ≡ goes_there floor c
+some_gone floor c swept sweeps = ap is_some sweeps.gone ∙ (elim (goes_there floor c) as (λ g. is_some (cond g (Some (bound_there c)) None) ≡ g) [ true ↦ refl | false ↦ refl ])
 
 module _ (cells cells' : Addr → Option Cell) (places places' : Occupancy) (pins : List (Option ℕ)) (past past' below actors : ℕ) where
-  pub sweeps_next : (touched touched' rest : List Addr) (a : Addr) (floor : ℕ) (swept : Swept) (gone : Bool) → touched ≡ a ∷ rest
-      → cells' ≡ set_cell a (collected floor (cells a)) cells → SweepsCell floor (cells a) swept
-      → places' ≡ cond (is_some swept.gone) (without_place a places) places → past' ≡ past_with swept.gone past → gone ≡ is_some swept.gone
-      → touched' ≡ cond swept.stays (rest ++ a ∷ []) rest
-      → SweepsNext floor touched (plain_from cells places pins past below actors) (swept.versions, gone) touched' (plain_from cells' places' pins past' below actors)
-  sweeps_next touched touched' rest a floor swept gone front e sweeps given rose is kept =
+  pub sweeps_next : (a : Addr) (floor : ℕ) (swept : Swept) → cells' ≡ set_cell a (collected floor (cells a)) cells → SweepsCell floor (cells a) swept
+      → places' ≡ cond (is_some swept.gone) (without_place a places) places → past' ≡ past_with swept.gone past
+      → SweepsNext floor (plain_from cells places pins past below actors) (Some swept) (plain_from cells' places' pins past' below actors)
+  sweeps_next a floor swept e sweeps given rose =
       let same : places' ≡ record places { taken = (cond (is_some swept.gone) (without_place a places) places).taken } = given ∙ given_regions a places swept.gone in
       let past_is : past' ≡ past_collected floor (cells a) past = rose ∙ (ap (λ (g : Option ℕ). past_with g past) sweeps.gone ∙ past_gone floor (cells a) past) in
-      let here : cells' a ≡ collected floor (cells a) = ap (λ (cells : Addr → Option Cell). cells a) e ∙ set_self a (collected floor (cells a)) cells in
-      subst (λ (l : List Addr). SweepsNext floor l (plain_from cells places pins past below actors) (swept.versions, gone) touched' (plain_from cells' places' pins past' below actors)) (sym front) (
+      let here : cells' a ≡ collected floor (cells a) = ap (λ (cells : Addr → Option Cell). cells a) e ∙ set_self a (collected floor (cells a)) cells in (
+        a,
         (λ i. record (plain_from (e i) places pins (past_is i) below actors) { regions = (same i).regions; node = (same i).node; nodes = (same i).nodes }),
         ap (λ (c : Option Cell). swept.versions + versions_in c) here ∙ sweeps.versions,
-        is ∙ (ap is_some sweeps.gone ∙ some_gone (goes_there floor (cells a)) (bound_there (cells a))),
-        cond_both swept.stays (rest ++ a ∷ []) rest (λ l. touched' ≡ l → (touched' ≡ rest) ⊎ (touched' ≡ rest ++ a ∷ [])) (λ s e. inr e) (λ s e. inl e) kept,
+        some_gone floor (cells a) swept sweeps,
       )
+
+-- an object that stays
+pub sweeps_cut : (floor : ℕ) (c w : Cell) (n : ℕ) (o : Option Cell) → Some c ≡ o → goes_there floor o ≡ false → w ≡ record c { versions = cut floor c.versions }
+    → n + length w.versions ≡ length c.versions → is_gone floor c.versions ≡ goes floor c → SweepsCell floor o (record { versions = n; gone = None })
+sweeps_cut floor c w n o there stays is removed whole =
+    let here : goes floor c ≡ false = ap (goes_there floor) there ∙ stays in
+    subst (λ (o : Option Cell). SweepsCell floor o (record { versions = n; gone = None })) there record {
+      versions = ap (λ (o : Option Cell). n + versions_in o) (cond-false (goes floor c) None (Some (record c { versions = cut floor c.versions })) here)
+          ∙ (ap (λ (x : Cell). n + length x.versions) (sym is) ∙ removed);
+      gone = sym (cond-false (goes floor c) (Some c.bound) None here);
+      whole = whole;
+    }

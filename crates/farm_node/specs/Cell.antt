@@ -24,11 +24,20 @@ abbrev pub is_open : Option Hold → Bool
 is_open None = true
 is_open (Some h) = false
 
--- what holds of each cell of a node: its newest version is at most its bound, and while it is locked its chain has a
--- place for what the lock will install
+abbrev pub is_absent : Option Bytes → Bool
+is_absent None = true
+is_absent (Some x) = false
+
+abbrev pub is_newest_absent : List Version → Bool
+is_newest_absent [] = false
+is_newest_absent (v ∷ vs) = is_absent v.1
+
+-- what holds of each cell of a node: its newest version is at most its bound; while it is locked its chain has a place
+-- for what the lock will install, and its newest version is a value, since a lock is given for a value alone
 pub record IsCell (chain : Versions) (bound : ℕ) (lock : Option Hold) : Type 0 where
   pub below : newest chain.versions ≤ bound
   pub room : is_open lock ≡ false → chain.reserved ≡ true
+  pub valued : is_open lock ≡ false → is_newest_absent chain.versions ≡ false
 
 -- whether two transactions are one
 abbrev pub same_txn : TxnId → TxnId → Bool
@@ -127,14 +136,6 @@ past_released (Some c) past = elim c.versions as (λ _. ℕ) [ [] ↦ max past c
 
 -- a collection at a floor
 
-abbrev pub is_absent : Option Bytes → Bool
-is_absent None = true
-is_absent (Some x) = false
-
-abbrev pub is_newest_absent : List Version → Bool
-is_newest_absent [] = false
-is_newest_absent (v ∷ vs) = is_absent v.1
-
 -- the newest version is absent and at most the floor
 abbrev pub is_gone : ℕ → List Version → Bool
 is_gone floor [] = false
@@ -143,15 +144,6 @@ is_gone floor (v ∷ vs) = nat_le v.0 floor && is_absent v.1
 -- an unlocked object whose newest version is absent and at most the floor goes whole
 abbrev pub goes : ℕ → Cell → Bool
 goes floor c = is_open c.lock && is_gone floor c.versions
-
--- what is unlocked and has one version, with a value, is left as it is by every collection
-abbrev pub is_single : List Version → Bool
-is_single [] = false
-is_single (v ∷ []) = not (is_absent v.1)
-is_single (v ∷ u ∷ vs) = false
-
-abbrev pub is_settled : Cell → Bool
-is_settled c = is_open c.lock && is_single c.versions
 
 -- what a collection at the floor leaves
 abbrev pub collected : ℕ → Option Cell → Option Cell

@@ -1,5 +1,5 @@
 -- What every lawful list of a node keeps.
-use Rattle.std.specs.Prelude.{◌≡◌, ◌≢◌, ℕ, ◌<◌, ◌≤◌, List, [], ◌∷◌, ◌++◌, Option, Some, None, Ok}
+use Rattle.std.specs.Prelude.{◌≡◌, ◌≢◌, ℕ, ◌<◌, ◌≤◌, List, [], ◌∷◌, ◌++◌, Some, None, Ok}
 use Rattle.std.specs.List.{AllByRecursion}
 use Rattle.a1_base.specs.declared.place.Addr.{Addr}
 use Rattle.a1_base.specs.declared.place.TxnId.{TxnId}
@@ -11,14 +11,10 @@ use Rattle.farm_node.specs.declared.entry.Entry.{Entry}
 use Rattle.farm_node.specs.declared.entry.Entry.TheVariants.{Read, Alloc, Lock, Check, Put, Unlock}
 use Rattle.farm_node.specs.Cell.{Bytes, Cell, found_at}
 use Rattle.farm_node.specs.NodeState.{NodeState, Lawful, replay}
+use Rattle.farm_node.specs.State.{versions_there}
 use Rattle.farm_node.specs.Story.{story, value_at, stamped_bytes}
 
 -- what the node has of an address
-abbrev pub versions_there : Option Cell → List Version
-versions_there None = []
-versions_there (Some c) = c.versions
-
--- and at an address of the state
 abbrev pub versions_at : NodeState → Addr → List Version
 versions_at p a = versions_there (p.cells a)
 

@@ -4,7 +4,9 @@ pub mod Story
 pub mod Laws
 pub mod Puts
 pub mod Locks
+pub mod Owned
 pub mod Answers
 pub mod State
+pub mod Waiting
 pub mod Node
 pub mod Standing

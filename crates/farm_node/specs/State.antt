@@ -1,13 +1,13 @@
 -- What a node's fields stand for, and what holds of them at all times.
-use Rattle.std.specs.Prelude.{◌≡◌, ◌⊎◌, ℕ, ◌+◌, max, Bool, true, false, not, cond, ◌||◌, ◌++◌, List, [], ◌∷◌, Option, Some, None, slice_index_or, is_some}
-use Rattle.std.specs.List.{list_any}
+use Rattle.std.specs.Prelude.{◌≡◌, ℕ, ◌+◌, max, Bool, true, false, not, cond, ◌||◌, List, [], ◌∷◌, Option, Some, None, slice_index_or, is_some}
 use Rattle.std.specs.BTreeMap.{BTreeMap, get}
 use Rattle.a1_base.specs.declared.place.Addr.{Addr}
 use Rattle.a1_base.specs.declared.place.TxnId.{TxnId}
-use Rattle.object_region.specs.Occupancy.{addr_order, same_addr, add_region, Occupancy, IsPlace}
+use Rattle.object_region.specs.Occupancy.{addr_order, add_region, Occupancy, IsPlace}
+use Rattle.version_chain.specs.Versions.{Version}
 use Rattle.farm_node.specs.declared.hold.Hold.{Hold}
 use Rattle.farm_node.specs.declared.swept.Swept.{Swept}
-use Rattle.farm_node.specs.Cell.{Bytes, Cell, same_txn, found_at, is_settled, loaded_cell, locked_by, goes, collected, past_collected, versions_in}
+use Rattle.farm_node.specs.Cell.{Bytes, Cell, same_txn, found_at, is_absent, is_gone, pending_of, loaded_cell, locked_by, goes, collected, past_collected, versions_in}
 use Rattle.farm_node.specs.NodeState.{NodeState, set_cell, occupancy}
 
 -- the cell at each address
@@ -31,18 +31,6 @@ plain_from cells places pins past floor actors = record {
 abbrev pub AgreesWith : (Addr → Option Cell) → Occupancy → Type 0
 AgreesWith cells places = (a : Addr) → places.taken a ≡ is_some (cells a)
 
-abbrev pub is_settled_there : Option Cell → Bool
-is_settled_there None = false
-is_settled_there (Some c) = is_settled c
-
-abbrev pub settled_there : Option Cell → Bool
-settled_there None = true
-settled_there (Some c) = is_settled c
-
--- whatever a collection could remove something of, stands in the list of touched addresses
-abbrev pub IsTracked : (Addr → Option Cell) → List Addr → Type 0
-IsTracked cells touched = (a : Addr) → (settled_there (cells a) || list_any (same_addr a) touched) ≡ true
-
 -- an object more, by which its region is made
 abbrev pub with_cell : Addr → Cell → NodeState → NodeState
 with_cell a c p = record p { cells = set_cell a (Some c) p.cells; regions = add_region a.region p.regions }
@@ -63,10 +51,19 @@ CanLoad p [] = Unit {0}
 CanLoad p (x ∷ xs) =
     IsPlace (occupancy p) x.0 × (p.cells x.0 ≡ None) × CanLoad (with_cell x.0 (loaded_cell p.floor x.1) p) xs
 
+-- what the node has of an address
+abbrev pub versions_there : Option Cell → List Version
+versions_there None = []
+versions_there (Some c) = c.versions
+
 -- an object without a version
 abbrev pub is_new : Option Cell → Bool
 is_new None = false
 is_new (Some c) = elim c.versions as (λ _. Bool) [ [] ↦ true | v ∷ vs ↦ false ]
+
+-- a put leaves something to collect once the floor has reached its stamp: an older version, or an absent one
+abbrev pub leaves_old : Cell → Bool
+leaves_old c = not (is_new (Some c)) || is_absent (pending_of c.lock)
 
 -- the transaction has the lock
 abbrev pub has_lock : TxnId → Option Hold → Bool
@@ -108,12 +105,12 @@ abbrev pub past_with : Option ℕ → ℕ → ℕ
 past_with None past = past
 past_with (Some bound) past = max bound past
 
--- what was removed of what was at an address: how many versions, the bound of an object that went, and whether the
--- address has something left to remove some day
+-- what was removed of what was at an address: how many versions, and the bound of an object that went, as each does
+-- whose newest version is absent and at most the floor
 pub record SweepsCell (floor : ℕ) (c : Option Cell) (swept : Swept) : Type 0 where
   pub versions : swept.versions + versions_in (collected floor c) ≡ versions_in c
   pub gone : swept.gone ≡ cond (goes_there floor c) (Some (bound_there c)) None
-  pub stays : swept.stays ≡ not (settled_there (collected floor c))
+  pub whole : is_gone floor (versions_there c) ≡ goes_there floor c
 
 -- a state in which one address was collected
 abbrev pub collected_at : ℕ → Addr → NodeState → NodeState
@@ -122,9 +119,9 @@ collected_at floor a p = record p {
   past = past_collected floor (p.cells a) p.past;
 }
 
--- the next touched address was collected, and stands last where something is left
-abbrev pub SweepsNext : ℕ → List Addr → NodeState → ℕ × Bool → List Addr → NodeState → Type 0
-SweepsNext floor [] p result touched q = (q ≡ p) × (touched ≡ []) × (result ≡ (0, false))
-SweepsNext floor (a ∷ rest) p result touched q =
-    (q ≡ collected_at floor a p) × (result.0 + versions_in (q.cells a) ≡ versions_in (p.cells a))
-    × (result.1 ≡ goes_there floor (p.cells a)) × ((touched ≡ rest) ⊎ (touched ≡ rest ++ a ∷ []))
+-- the next address that waits was collected, or nothing is left to collect
+abbrev pub SweepsNext : ℕ → NodeState → Option Swept → NodeState → Type 0
+SweepsNext floor p None q = (q ≡ p) × ((a : Addr) → collected floor (p.cells a) ≡ p.cells a)
+SweepsNext floor p (Some swept) q = (a : Addr) × (q ≡ collected_at floor a p)
+    × (swept.versions + versions_in (q.cells a) ≡ versions_in (p.cells a))
+    × (is_some swept.gone ≡ goes_there floor (p.cells a))

@@ -2,6 +2,7 @@
 ghost use Rattle.farm_node.specs.Laws.{ReadsHold, PinsHold, MineDecides};
 ghost use Rattle.farm_node.specs.Puts.{PutsHold};
 ghost use Rattle.farm_node.specs.Locks.{LocksHold, RangesHold};
+ghost use Rattle.farm_node.specs.Owned.{OwnedHold};
 ghost use Rattle.farm_node.specs.Standing.{ListsGoOn};
 
 /// What a read answered is the value at its stamp in every longer list, and where an object was made, nothing is there
@@ -35,6 +36,13 @@ pub fn puts_hold()
 #[tactic(auto, using(crate::proofs::Blames::locks))]
 pub fn locks_hold()
     ensures { LocksHold }
+{}
+
+/// What an actor's own entries say of its locks and its reads, through entries of others and by its own, and what a node
+/// keeps of its start.
+#[tactic(auto, using(crate::proofs::Owning::owned))]
+pub fn owned_hold()
+    ensures { OwnedHold }
 {}
 
 /// Every stamp of a node, and every one that it answers, is below 2^62.

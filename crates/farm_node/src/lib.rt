@@ -12,11 +12,13 @@ mod laws;
 mod node;
 mod object;
 mod swept;
+mod waiting;
 
 pub use entry::{CheckFault, Collected, Entry, Found, Locked, Placed, Start};
 pub use faults::{LockFault, PlaceFault, ReadFault};
 pub use hold::Hold;
 pub use laws::{
-    lists_go_on, locks_hold, mine_decides, pins_hold, puts_hold, ranges_hold, reads_hold,
+    lists_go_on, locks_hold, mine_decides, owned_hold, pins_hold, puts_hold, ranges_hold,
+    reads_hold,
 };
 pub use node::Node;

@@ -1,21 +1,22 @@
 //! A node and its events.
-ghost use Rattle.std.specs.Prelude.{◌≡◌, ◌+◌, ◌-◌, ◌<◌, ◌++◌, ◌∷◌, [], if◌then◌else◌, ℕ, true, false, Some, None, is_some, length, IfOk, IfSome, OnOk, OnErr, slice_index_or, vec_len};
-ghost use Rattle.std.specs.VecDeque.{deque_len, deque_capacity};
+ghost use Rattle.std.specs.Prelude.{◌≡◌, ◌+◌, ◌-◌, ◌<◌, ◌∷◌, [], if◌then◌else◌, ℕ, true, false, Some, None, is_some, is_ok, length, IfOk, IfSome, OnSome, OnOk, OnErr, slice_index_or, vec_len};
 ghost use Rattle.a1_base.specs.declared.limits.TheConstants.{NODE_LIMIT};
 ghost use Rattle.object_region.specs.Occupancy.{IsPlace, IsFree, with_place, without_place};
 ghost use Rattle.object_region.specs.Regions.{occupancy_of};
 ghost use Rattle.farm_node.specs.Cell.{collected};
 ghost use Rattle.farm_node.specs.NodeState.{set_cell, lesser, least_pin};
-ghost use Rattle.farm_node.specs.State.{cells_of, AgreesWith, IsTracked, SweepsCell, goes_there, past_with};
+ghost use Rattle.farm_node.specs.State.{cells_of, AgreesWith, SweepsCell, goes_there, past_with};
+ghost use Rattle.farm_node.specs.Waiting.{IsTracked, marked, held_in, held_there, lock_count};
 
 use crate::entry::{CheckFault, Collected, Found, Locked, Placed};
 use crate::faults::{LockFault, PlaceFault, ReadFault};
 use crate::object::Object;
 use crate::swept::Swept;
+use crate::waiting::Waiting;
 use a1_base::{Addr, Bin, Memory, TxnId};
 use object_region::Places;
 use std::alloc::Global;
-use std::collections::{BTreeMap, VecDeque};
+use std::collections::BTreeMap;
 
 #[cfg(test)]
 mod tests;
@@ -27,27 +28,27 @@ pub struct Node {
     places: Places,
     // The pin of each actor, by its number.
     pins: Vec<Option<u64>>,
-    // Each address of which a collection could remove something.
-    touched: VecDeque<Addr>,
+    // What collections will remove, and a place for each lock.
+    waiting: Waiting,
     past: u64,
     floor: u64,
     actors: u32,
     ghost agrees: { AgreesWith (cells_of objects) (occupancy_of places) },
-    ghost tracked: { IsTracked (cells_of objects) touched.items },
+    ghost tracked: { IsTracked (cells_of objects) (marked waiting) },
+    ghost reserved: { waiting.reserved ≡ lock_count objects },
     ghost numbered: { vec_len pins ≡ actors + 1 },
 }
 
 impl Node {
-    ghost use Rattle.std.specs.Prelude.{◌≤◌, ◌↔◌, ◌||◌, Ok, Err, take, IfErr};
-    ghost use Rattle.std.specs.List.{list_any};
-    ghost use Rattle.object_region.specs.Occupancy.{IsSpent, same_addr};
+    ghost use Rattle.std.specs.Prelude.{◌≤◌, ◌↔◌, Ok, Err, take, IsOk};
+    ghost use Rattle.object_region.specs.Occupancy.{IsSpent};
     ghost use Rattle.farm_node.specs.declared.entry.Start.{Start};
     ghost use Rattle.farm_node.specs.declared.entry.Entry.TheVariants.{Made, Open, Shut, Check, Put, Unlock, Collect};
-    ghost use Rattle.farm_node.specs.Cell.{made_by, loaded_cell, lock_answer, is_settled};
+    ghost use Rattle.farm_node.specs.Cell.{made_by, loaded_cell, lock_answer, is_newest_absent};
     ghost use Rattle.farm_node.specs.NodeState.{PinnedBy, HeldBy, MayLock, MayPut, Adds, occupancy, counted, object_count, version_count, after_collect};
     ghost use Rattle.a1_base.specs.Stamps.{IsStamp};
     ghost use Rattle.farm_node.specs.Answers.{read_entry, alloc_entry, lock_entry, AddsIfMade};
-    ghost use Rattle.farm_node.specs.State.{is_new, given_back, is_settled_there, holds_there, may_lock, with_cell, with_lock, with_objects, CanLoad, SweepsNext};
+    ghost use Rattle.farm_node.specs.State.{is_new, given_back, versions_there, holds_there, may_lock, with_cell, with_lock, with_objects, CanLoad, SweepsNext};
     ghost use Rattle.farm_node.specs.Node.{plain_of, StandsFor};
     ghost use Rattle.farm_node.specs.Standing.{with_heap};
 
@@ -72,7 +73,7 @@ impl Node {
             objects: BTreeMap::new(alloc),
             places: Places::new(alloc, node, nodes),
             pins,
-            touched: VecDeque::new(alloc),
+            waiting: Waiting::new(alloc),
             past: stamp,
             floor: stamp,
             actors,
@@ -169,19 +170,14 @@ impl Node {
         ensures err { OnErr result (plain_of self.new ≡ plain_of self.old) }
     {
         let object = Object::made(alloc, transaction, bytes, bound)?;
-        self.touch(at)?;
-        self.insert(at, object)
-    }
-
-    // Puts an object at a free place. Its address is in the list of touched ones, or it is settled.
-    fn insert(&mut self, at: Addr, object: Object) -> Result<(), Memory>
-        requires place { IsPlace (occupancy (plain_of self.old)) at }
-        requires free { (plain_of self.old).cells at ≡ None }
-        requires tracked { (is_settled object || list_any (same_addr at) self.old.touched.items) ≡ true }
-        ensures ok { OnOk result (plain_of self.new ≡ with_cell at object (plain_of self.old)) }
-        ensures err { OnErr result (plain_of self.new ≡ plain_of self.old) }
-    {
-        insert_at(&mut self.objects, &mut self.places, at, object)
+        self.waiting.reserve()?;
+        match insert_at(&mut self.objects, &mut self.places, at, object) {
+            Ok(()) => Ok(()),
+            Err(memory) => {
+                self.waiting.give_up();
+                Err(memory)
+            }
+        }
     }
 
     /// Loads objects before any event, each with one version at the stamp of the start. `Memory` comes for want of
@@ -212,7 +208,7 @@ impl Node {
         ensures err { OnErr result (plain_of self.new ≡ plain_of self.old) }
     {
         let object = Object::loaded(alloc, self.floor, bytes)?;
-        self.insert(at, object)
+        insert_at(&mut self.objects, &mut self.places, at, object)
     }
 
     /// Whether an object is at an address.
@@ -257,56 +253,34 @@ impl Node {
         requires pinned { PinnedBy (plain_of self.old) transaction.actor read_stamp }
         requires stamp { IsStamp read_stamp }
         requires may { MayLock (plain_of self.old) transaction at read_stamp }
-        ensures { AddsIfMade (plain_of self.old) (lock_entry transaction at read_stamp new result) (plain_of self.new) }
+        ensures made { AddsIfMade (plain_of self.old) (lock_entry transaction at read_stamp new result)
+            (plain_of self.new) }
+        ensures order { result ≡ Err LockFault.Memory
+            → IsOk (lock_answer transaction read_stamp ((plain_of self.old).cells at)) }
     {
-        let (locked, settled) = self.ask_lock(transaction, at, read_stamp)?;
-        if settled {
-            self.touch(at)?;
-        }
+        let locked = self.ask_lock(transaction, at, read_stamp)?;
         self.hold(transaction, at, new)?;
         Ok(locked)
     }
 
-    // Whether the transaction may have the lock, and whether what is there is settled.
-    fn ask_lock(
-        &self,
-        transaction: TxnId,
-        at: Addr,
-        read_stamp: u64,
-    ) -> Result<(Locked, bool), CheckFault>
-        ensures given { IfOk result (λ x. Ok x.0 ≡ lock_answer transaction read_stamp (cells_of self.now.objects at)) }
-        ensures settled { IfOk result (λ x. x.1 ≡ is_settled_there (cells_of self.now.objects at)) }
-        ensures fault { IfErr result (λ f. Err f ≡ lock_answer transaction read_stamp (cells_of self.now.objects at)) }
+    // Whether the transaction may have the lock.
+    fn ask_lock(&self, transaction: TxnId, at: Addr, read_stamp: u64) -> Result<Locked, CheckFault>
+        ensures { result ≡ lock_answer transaction read_stamp (cells_of self.now.objects at) }
     {
         match self.objects.get(&at) {
-            Some(object) => {
-                let locked = object.lockable(transaction, read_stamp)?;
-                Ok((locked, object.is_settled()))
-            }
-            None => Ok((Locked { seen: 0, bound: 0 }, false)),
+            Some(object) => object.lockable(transaction, read_stamp),
+            None => Ok(Locked { seen: 0, bound: 0 }),
         }
     }
 
-    // Puts an address into the list of touched ones.
-    fn touch(&mut self, at: Addr) -> Result<(), Memory>
-        ensures objects { self.new.objects ≡ self.old.objects }
-        ensures plain { plain_of self.new ≡ plain_of self.old }
-        ensures there { OnOk result (list_any (same_addr at) self.new.touched.items ≡ true) }
-    {
-        match self.touched.push_back(at) {
-            Ok(()) => Ok(()),
-            Err(_) => Err(Memory),
-        }
-    }
-
-    // Locks an object whose address is in the list of touched ones.
+    // Locks an object that has a value, or none yet.
     fn hold(&mut self, transaction: TxnId, at: Addr, new: Option<Bin>) -> Result<(), Memory>
-        requires there { list_any (same_addr at) self.old.touched.items ≡ true }
+        requires valued { is_newest_absent (versions_there ((plain_of self.old).cells at)) ≡ false }
         ensures ok { OnOk result (plain_of self.new ≡ with_lock at transaction new (plain_of self.old)) }
         ensures err { OnErr result (plain_of self.new ≡ plain_of self.old) }
     {
         match self.objects.get_mut(&at) {
-            Some(object) => object.hold(transaction, new),
+            Some(object) => object.hold(&mut self.waiting, transaction, new),
             None => Ok(()),
         }
     }
@@ -342,7 +316,8 @@ impl Node {
         ensures { Adds (plain_of self.old) (Put transaction at write_stamp) (plain_of self.new) }
     {
         if let Some(object) = self.objects.get_mut(&at) {
-            object.install(write_stamp);
+            let waits = object.install(write_stamp);
+            self.waiting.settle(write_stamp, at, waits);
         }
     }
 
@@ -355,6 +330,7 @@ impl Node {
             self.give_back(at);
         } else if let Some(object) = self.objects.get_mut(&at) {
             object.release();
+            self.waiting.give_up();
         }
     }
 
@@ -368,14 +344,16 @@ impl Node {
         }
     }
 
-    // Gives the place of an object back.
+    // Gives the place of a locked object back.
     fn give_back(&mut self, at: Addr)
+        requires { held_there ((plain_of self.old).cells at) ≡ 1 }
         ensures { plain_of self.new ≡ given_back at (plain_of self.old) }
     {
         match take_object(&mut self.objects, at) {
             Some(object) => {
                 self.past = self.past.max(object.bound());
                 self.places.give(at);
+                self.waiting.give_up();
             }
             None => {}
         }
@@ -383,8 +361,8 @@ impl Node {
 
     /// Collects: the floor rises to the least of `proposal` and the pins, and never falls. The versions older than the
     /// newest one at most the floor go, and so do the objects without a lock whose newest version is absent and at most
-    /// the floor; their places are free again. It takes time by the addresses that were locked since the last
-    /// collection, and by those that have old versions or are absent.
+    /// the floor; their places are free again. It takes time by the actors and by the versions that go: what has to wait
+    /// for the floor to rise is not visited.
     pub fn collect(&mut self, proposal: u64) -> Collected
         requires stamp { IsStamp proposal }
         ensures { (k : ℕ) → 0 < k → Adds (plain_of self.old) (Collect k proposal result) (plain_of self.new) }
@@ -407,30 +385,26 @@ impl Node {
     {
         let mut versions: u64 = 0;
         let mut objects: u64 = 0;
-        // For the proof alone: what `regions` ensures says that every object lies in a made region.
+        // For the proof alone: what `regions` ensures says that every object lies in a made region, and `len` that no
+        // count of objects gets too large.
         prove!(self.places.regions() <= u32::MAX);
-        let count = self.touched.len();
-        for _ in 0..count {
-            let (removed, gone) = self.sweep_next(floor);
-            versions = versions.saturating_add(removed);
-            objects += u64::from(gone);
+        prove!(self.waiting.len() <= usize::MAX);
+        while let Some(swept) = self.sweep_next(floor) {
+            versions = versions.saturating_add(swept.versions);
+            objects += u64::from(swept.gone.is_some());
         }
         (versions, objects)
     }
 
-    // Removes what a collection at this floor removes at the next touched address, and says how many versions, and
-    // whether the object went.
-    fn sweep_next(&mut self, floor: u64) -> (u64, bool)
-        ensures { SweepsNext floor self.old.touched.items (plain_of self.old) result self.new.touched.items
-            (plain_of self.new) }
+    // Removes what a collection at this floor removes at the next address that waits for it, where one does.
+    fn sweep_next(&mut self, floor: u64) -> Option<Swept>
+        ensures swept { SweepsNext floor (plain_of self.old) result (plain_of self.new) }
+        ensures fewer { OnSome result (self.new.waiting.count + 1 ≡ self.old.waiting.count) }
     {
-        let Some(at) = self.touched.pop_front() else {
-            return (0, false);
-        };
+        let at = self.waiting.take_due(floor)?;
         let swept = sweep_at(&mut self.objects, at, floor);
         give_place(&mut self.places, &mut self.past, at, swept.gone);
-        keep(&mut self.touched, at, swept.stays);
-        (swept.versions, swept.gone.is_some())
+        Some(swept)
     }
 
     /// How many objects and versions there are; a count stands still at 2^64 - 1. It goes over all objects.
@@ -469,6 +443,8 @@ fn insert_at(
         × (occupancy_of places.new ≡ with_place at (occupancy_of places.old))) }
     ensures err { OnErr result ((cells_of objects.new ≡ cells_of objects.old)
         × (occupancy_of places.new ≡ occupancy_of places.old)) }
+    ensures locks { lock_count objects.new
+        ≡ lock_count objects.old + (if is_ok result then held_in object else 0) }
 {
     put_object(objects, at, object)?;
     match places.claim(at) {
@@ -485,6 +461,8 @@ fn put_object(objects: &mut BTreeMap<Addr, Object>, at: Addr, object: Object) ->
     requires { cells_of objects.old at ≡ None }
     ensures ok { OnOk result (cells_of objects.new ≡ set_cell at (Some object) (cells_of objects.old)) }
     ensures err { OnErr result (cells_of objects.new ≡ cells_of objects.old) }
+    ensures locks { lock_count objects.new
+        ≡ lock_count objects.old + (if is_ok result then held_in object else 0) }
 {
     match objects.insert(at, object) {
         Ok(_) => Ok(()),
@@ -496,6 +474,7 @@ fn put_object(objects: &mut BTreeMap<Addr, Object>, at: Addr, object: Object) ->
 fn take_object(objects: &mut BTreeMap<Addr, Object>, at: Addr) -> Option<Object>
     ensures object { result ≡ cells_of objects.old at }
     ensures cells { cells_of objects.new ≡ set_cell at None (cells_of objects.old) }
+    ensures locks { lock_count objects.new + held_there result ≡ lock_count objects.old }
 {
     objects.remove(&at)
 }
@@ -505,6 +484,7 @@ fn sweep_at(objects: &mut BTreeMap<Addr, Object>, at: Addr, floor: u64) -> Swept
     ensures cells { cells_of objects.new
         ≡ set_cell at (collected floor (cells_of objects.old at)) (cells_of objects.old) }
     ensures swept { SweepsCell floor (cells_of objects.old at) result }
+    ensures locks { lock_count objects.new ≡ lock_count objects.old }
 {
     match gone_at(objects, at, floor) {
         Some(swept) => {
@@ -525,7 +505,6 @@ fn gone_at(objects: &BTreeMap<Addr, Object>, at: Addr, floor: u64) -> Option<Swe
         Some(Swept {
             versions: object.len(),
             gone: Some(object.bound()),
-            stays: false,
         })
     } else {
         None
@@ -538,22 +517,15 @@ fn cut_at(objects: &mut BTreeMap<Addr, Object>, at: Addr, floor: u64) -> Swept
     ensures cells { cells_of objects.new
         ≡ set_cell at (collected floor (cells_of objects.old at)) (cells_of objects.old) }
     ensures swept { SweepsCell floor (cells_of objects.old at) result }
+    ensures locks { lock_count objects.new ≡ lock_count objects.old }
 {
-    match objects.get_mut(&at) {
-        Some(object) => {
-            let versions = object.cut(floor);
-            let stays = !object.is_settled();
-            Swept {
-                versions,
-                gone: None,
-                stays,
-            }
-        }
-        None => Swept {
-            versions: 0,
-            gone: None,
-            stays: false,
-        },
+    let versions = match objects.get_mut(&at) {
+        Some(object) => object.cut(floor),
+        None => 0,
+    };
+    Swept {
+        versions,
+        gone: None,
     }
 }
 
@@ -567,16 +539,6 @@ fn give_place(places: &mut Places, past: &mut u64, at: Addr, gone: Option<u64>)
     if let Some(bound) = gone {
         *past = bound.max(*past);
         places.give(at);
-    }
-}
-
-// Puts an address that stays behind the others, into the place that it left.
-fn keep(touched: &mut VecDeque<Addr>, at: Addr, stays: bool)
-    requires { deque_len touched.old < deque_capacity touched.old }
-    ensures { touched.new.items ≡ (if stays then touched.old.items ++ at ∷ [] else touched.old.items) }
-{
-    if stays {
-        touched.push_back_reserved(at);
     }
 }
 

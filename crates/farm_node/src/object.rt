@@ -1,13 +1,15 @@
 //! What is at one address.
-ghost use Rattle.std.specs.Prelude.{◌≡◌, ◌<◌, ◌↔◌, max, [], true, false, Some, None, Ok, Err, IsTrue, IfOk, OnOk, OnErr, ◌+◌, length, option_map};
+ghost use Rattle.std.specs.Prelude.{◌≡◌, ◌<◌, ◌↔◌, max, [], true, false, Some, None, Ok, Err, IsTrue, IfOk, OnOk, OnErr, ◌+◌, ◌-◌, length, option_map};
 ghost use Rattle.version_chain.specs.Versions.{cut};
-ghost use Rattle.farm_node.specs.Cell.{Cell, found_at, made_by, loaded_cell, unless_changed, lock_answer, check_answer, locked_by, installed, is_open, is_newest_absent, is_settled, goes};
+ghost use Rattle.farm_node.specs.Cell.{Cell, found_at, made_by, loaded_cell, unless_changed, lock_answer, check_answer, locked_by, installed, is_open, is_newest_absent, is_gone, goes};
 ghost use Rattle.farm_node.specs.Answers.{ReadsCell};
-ghost use Rattle.farm_node.specs.State.{has_lock, has_value, may_lock};
+ghost use Rattle.farm_node.specs.State.{has_lock, has_value, may_lock, leaves_old};
+ghost use Rattle.farm_node.specs.Waiting.{held_in};
 
 use crate::entry::{CheckFault, Found, Locked};
 use crate::faults::ReadFault;
 use crate::hold::Hold;
+use crate::waiting::Waiting;
 use a1_base::{Bin, Memory, TxnId};
 use std::alloc::Global;
 use std::marker::Model;
@@ -174,12 +176,23 @@ impl Object {
         }
     }
 
-    /// Locks it, to install `new`. `Memory` comes for want of memory alone, and leaves the object as it was.
-    pub fn hold(&mut self, transaction: TxnId, new: Option<Bin>) -> Result<(), Memory>
-        ensures ok { OnOk result (Some self.new ≡ locked_by transaction new (Some self.old)) }
-        ensures err { OnErr result (self.new ≡ self.old) }
+    /// Locks it, to install `new`, with a place among what waits for a collection, which it has already where the
+    /// transaction locks anew. `Memory` comes for want of memory alone, and leaves all as it was.
+    pub fn hold(
+        &mut self,
+        waiting: &mut Waiting,
+        transaction: TxnId,
+        new: Option<Bin>,
+    ) -> Result<(), Memory>
+        requires valued { is_newest_absent self.old.versions ≡ false }
+        ensures ok { OnOk result ((Some self.new ≡ locked_by transaction new (Some self.old))
+            × (waiting.new ≡ record waiting.old { reserved = waiting.old.reserved + (1 - held_in self.old) })) }
+        ensures err { OnErr result ((self.new ≡ self.old) × (waiting.new ≡ waiting.old)) }
     {
         self.chain.reserve()?;
+        if self.lock.is_none() {
+            waiting.reserve()?;
+        }
         self.lock = Some(Hold {
             by: transaction,
             pending: new,
@@ -201,17 +214,22 @@ impl Object {
         Ok(())
     }
 
-    /// Installs the value that waits at `write_stamp`, and unlocks it.
-    pub fn install(&mut self, write_stamp: u64)
+    /// Installs the value that waits at `write_stamp`, and unlocks it. It says whether that leaves something to collect
+    /// once the floor has reached `write_stamp`.
+    pub fn install(&mut self, write_stamp: u64) -> bool
         requires locked { is_open self.old.lock ≡ false }
         requires above { self.old.bound < write_stamp }
-        ensures { Some self.new ≡ installed write_stamp (Some self.old) }
+        ensures object { Some self.new ≡ installed write_stamp (Some self.old) }
+        ensures waits { result ≡ leaves_old self.old }
     {
-        if let Some(hold) = self.lock.take() {
-            let Hold { pending, .. } = hold;
-            self.chain.push(write_stamp, pending);
-            self.bound = write_stamp;
-        }
+        let Some(hold) = self.lock.take() else {
+            unreachable!()
+        };
+        let Hold { pending, .. } = hold;
+        let leaves_old = !self.chain.is_empty() || pending.is_none();
+        self.chain.push(write_stamp, pending);
+        self.bound = write_stamp;
+        leaves_old
     }
 
     /// Unlocks it.
@@ -252,13 +270,6 @@ impl Object {
         self.lock.is_none() && self.chain.newest() <= floor && self.is_newest_absent()
     }
 
-    /// Whether no collection can remove anything of it before it is locked again.
-    pub fn is_settled(&self) -> bool
-        ensures { result ≡ is_settled self.now }
-    {
-        self.lock.is_none() && self.chain.len() == 1 && !self.is_newest_absent()
-    }
-
     /// How many versions it has.
     pub fn len(&self) -> u64
         ensures { result ≡ length self.now.versions }
@@ -266,10 +277,12 @@ impl Object {
         self.chain.len() as u64
     }
 
-    /// Removes the versions older than the newest one at most `floor`, and says how many.
+    /// Removes the versions older than the newest one at most `floor`, and says how many. Its newest version is absent
+    /// and at most `floor` exactly where the whole object goes.
     pub fn cut(&mut self, floor: u64) -> u64
         ensures cut { self.new ≡ record self.old { versions = cut floor self.old.versions } }
         ensures removed { result + length self.new.versions ≡ length self.old.versions }
+        ensures whole { is_gone floor self.old.versions ≡ goes floor self.old }
     {
         self.chain.cut(floor)
     }

@@ -15,17 +15,17 @@ lock-requires c =
 pub returns-in-Ok : goal.returns-in-Ok
 returns-in-Ok c = λ s r at meets.
     lock_given s r c.args.transaction c.args.self.now c.args.nodes.now at c.args.at c.home-node.result c.index-nodes-node.result c.home-node.ensures.is
-    c.lock.new.self c.args.new.now c.in_ok-new.new c.in_ok-new.ensures c.take.new.self c.in-Ok.locked c.in-Ok.ensures c.take.ensures.same c.take.ensures.reads
+    c.lock.new.self c.args.new.now c.in_ok-new.new c.in_ok-new.ensures c.take.new.self c.in-Ok.locked c.in-Ok.ensures.made c.take.ensures.same c.take.ensures.reads
     (c.take.ensures.locked ∙ ap (λ (xs : List Addr). xs ++ c.args.at ∷ []) c.reserve.ensures.items)
 
 pub returns-in-Ok-lock_fault : goal.returns-in-Ok-lock_fault
 returns-in-Ok-lock_fault c = λ s r at meets.
     lock_refused s r c.args.transaction c.args.self.now c.args.nodes.now at c.args.at c.home-node.result c.index-nodes-node.result c.home-node.ensures.is
-    c.lock.new.self c.args.new.now c.in_ok-new.new c.in_ok-new.ensures _ c.in-Err.fault c.in-Ok-lock_fault.fault c.fault_answer.result (sym c.in-Ok-lock_fault.ensures) c.fault_answer.ensures c.in-Err.ensures
+    c.lock.new.self c.args.new.now c.in_ok-new.new c.in_ok-new.ensures _ c.in-Err.fault c.in-Ok-lock_fault.fault c.fault_answer.result (sym c.in-Ok-lock_fault.ensures) c.fault_answer.ensures c.in-Err.ensures.made
     refl (refl, refl) refl c.reserve.ensures.items
 
 pub returns-in-Err-lock_fault : goal.returns-in-Err-lock_fault
 returns-in-Err-lock_fault c = λ s r at meets.
     lock_failed s r c.args.transaction c.args.self.now c.args.nodes.now at c.args.at c.home-node.result c.index-nodes-node.result c.home-node.ensures.is
-    c.lock.new.self c.args.new.now c.in_ok-new.new c.in_ok-new.ensures _ c.in-Err.fault c.in-Err-lock_fault.memory (sym c.in-Err-lock_fault.ensures) c.in-Err.ensures
+    c.lock.new.self c.args.new.now c.in_ok-new.new c.in_ok-new.ensures _ c.in-Err.fault c.in-Err-lock_fault.memory (sym c.in-Err-lock_fault.ensures) c.in-Err.ensures.made
     refl (refl, refl) refl c.reserve.ensures.items

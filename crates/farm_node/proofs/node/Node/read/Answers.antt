@@ -1,6 +1,7 @@
-use Rattle.farm_node.proofs.Common.{Some, is_some, ap, occupancy_of, cells_of, plain_of}
-use Rattle.farm_node.proofs.CellMaps.{cells_written, agrees_set, tracked_kept}
-use Rattle.farm_node.proofs.Events.{read_there, reads_settled}
+use Rattle.farm_node.proofs.Common.{Some, is_some, ap, occupancy_of, cells_of, plain_of, marked}
+use Rattle.farm_node.proofs.CellMaps.{cells_written, agrees_set}
+use Rattle.farm_node.proofs.Dues.{tracked_kept, locks_kept}
+use Rattle.farm_node.proofs.Events.{read_there, reads_versions, reads_locks}
 use Rattle.farm_node.proofs.node.Node.read.Goals as goal
 
 pub invariant_of-self-clause-agrees : goal.invariant_of-self-clause-agrees
@@ -11,9 +12,14 @@ invariant_of-self-clause-agrees c =
 
 pub invariant_of-self-clause-tracked : goal.invariant_of-self-clause-tracked
 invariant_of-self-clause-tracked c =
-    tracked_kept (cells_of c.args.self.now.objects) (cells_of (c.get_mut.follows.lender c.read.new.self)) c.args.self.now.touched.items c.args.at c.in-Some.object.now c.read.new.self c.args.self.now.tracked c.in-Some.ensures.value
+    tracked_kept (cells_of c.args.self.now.objects) (cells_of (c.get_mut.follows.lender c.read.new.self)) (marked c.args.self.now.waiting) c.args.at c.in-Some.object.now c.read.new.self c.args.self.now.tracked c.in-Some.ensures.value
     (cells_written c.args.self.now.objects (c.get_mut.follows.lender c.read.new.self) c.args.at c.in-Some.object.now c.read.new.self c.in-Some.ensures.value (c.get_mut.follows.holds c.read.new.self))
-    (reads_settled c.args.stamp c.in-Some.object.now c.read.new.self c.read.result c.read.ensures)
+    (reads_versions c.args.stamp c.in-Some.object.now c.read.new.self c.read.result c.read.ensures)
+
+pub invariant_of-self-clause-reserved : goal.invariant_of-self-clause-reserved
+invariant_of-self-clause-reserved c =
+    locks_kept c.args.self.now.objects (c.get_mut.follows.lender c.read.new.self) c.args.at c.in-Some.object.now c.read.new.self c.args.self.now.waiting.reserved c.in-Some.ensures.value
+    (c.get_mut.follows.holds c.read.new.self) (reads_locks c.args.stamp c.in-Some.object.now c.read.new.self c.read.result c.read.ensures) c.args.self.now.reserved
 
 pub returns-in-Some : goal.returns-in-Some
 returns-in-Some c =
