@@ -1,12 +1,12 @@
 -- The places of items, and what stands there.
-use Rattle.std.proofs.Common.{◌≡◌, ◌⊎◌, inl, inr, ℕ, zero, suc, Bool, true, List, [], ◌∷◌, ◌++◌, Option, Some, None, refl, sym, ap, subst, ◌∙◌}
+use Rattle.std.proofs.Common.{◌≡◌, ◌⊎◌, inl, inr, ℕ, zero, suc, ◌%◌, Bool, true, List, [], ◌∷◌, ◌++◌, Option, Some, None, refl, sym, ap, subst, ◌∙◌}
 use Rattle.std.specs.Prelude.{map}
 use Rattle.std.specs.List.{AllByRecursion, flat_map}
 use Rattle.a1_base.specs.Lists.{IsAmong}
 use Rattle.a1_base.specs.declared.place.Addr.{Addr}
 use Rattle.object_view.specs.Agreement.{State}
-use Rattle.object_view.specs.Layout.{Entry, addr_of, node_bytes}
-use Rattle.object_view.specs.Trees.{Branch, Item, spell, homes, Node, Stands, Distinct}
+use Rattle.object_view.specs.Layout.{Entry, addr_of, word_of, node_bytes}
+use Rattle.object_view.specs.Trees.{Branch, Item, spell, homes, Node, Stands, Distinct, root_least, IsRooted, IsTree, is_on}
 
 pub in_left : (b : Addr) (xs ys : List Addr) → IsAmong b xs → IsAmong b (xs ++ ys)
 in_left b [] ys i = absurd i
@@ -135,3 +135,51 @@ distinct_swap s l m n r fl fr d dn from =
       | inr k ↦ p.apart a i (in_right a m r k)
     ] in
     distinct_join l (n ++ r) p.left (distinct_join n r dn q.right nr) ln
+
+-- ---- a whole tree
+
+rooted_kept : (R : Addr → Bool) (s t : State) (anchor : Addr) (owner d : ℕ) (b : Branch (Item d))
+    → IsRooted R s anchor owner d b → ((a : Addr) → IsAmong a (anchor ∷ homes (suc d) b) → t a ≡ s a)
+    → IsRooted R t anchor owner d b
+rooted_kept R s t anchor owner d b tree keep = record {
+  owner_fits = tree.owner_fits; root_fits = tree.root_fits; low = tree.low; reached = tree.reached;
+  bytes = keep anchor (inl refl) ∙ tree.bytes;
+  sub = record {
+    spans = tree.sub.spans;
+    node = node_kept R s t (word_of anchor) (root_least d) (addr_of b.word) (map (spell d) b.items) tree.sub.node
+        (keep (addr_of b.word) (inr (inl refl)));
+    stand = stand_kept R s t (word_of anchor) d b.items tree.sub.stand (λ a i. keep a (inr (inr i)));
+    distinct = tree.sub.distinct };
+  apart = tree.apart
+}
+
+-- equal bytes on its places keep a tree
+pub tree_kept : (nodes : ℕ) (s t : State) (anchor owner : Addr) (pairs : List Entry) (at : List Addr)
+    → IsTree nodes s anchor owner pairs at → ((a : Addr) → IsAmong a at → t a ≡ s a)
+    → IsTree nodes t anchor owner pairs at
+tree_kept nodes s t anchor owner pairs at tree keep = record {
+  height = tree.height; root = tree.root;
+  rooted = rooted_kept (is_on nodes (anchor.region % nodes)) s t anchor (word_of owner) tree.height tree.root tree.rooted
+      (λ a i. keep a (subst (λ (xs : List Addr). IsAmong a xs) (sym tree.places_are) i));
+  pairs_are = tree.pairs_are; places_are = tree.places_are
+}
+
+-- each of its places has an object
+pub tree_filled : (nodes : ℕ) (s : State) (anchor owner : Addr) (pairs : List Entry) (at : List Addr)
+    → IsTree nodes s anchor owner pairs at → (a : Addr) → IsAmong a at → s a ≡ None → ⊥
+tree_filled nodes s anchor owner pairs at tree a i =
+    let R : Addr → Bool = is_on nodes (anchor.region % nodes) in
+    let w = tree.rooted in
+    let d : ℕ = tree.height in
+    full_cons s anchor (homes (suc tree.height) tree.root) (some_not (s anchor) _ w.bytes)
+      (full_cons s (addr_of tree.root.word) (flat_map (homes tree.height) tree.root.items)
+        (node_full R s (word_of anchor) (root_least tree.height) (addr_of tree.root.word)
+          (map (spell tree.height) tree.root.items) w.sub.node)
+        (stand_full R s (word_of anchor) tree.height tree.root.items w.sub.stand))
+      a (subst (λ (xs : List Addr). IsAmong a xs) tree.places_are i)
+
+-- its anchor is one of its places
+pub tree_self : (nodes : ℕ) (s : State) (anchor owner : Addr) (pairs : List Entry) (at : List Addr)
+    → IsTree nodes s anchor owner pairs at → IsAmong anchor at
+tree_self nodes s anchor owner pairs at tree =
+    subst (λ (xs : List Addr). IsAmong anchor xs) (sym tree.places_are) (inl refl)

@@ -1,0 +1,5 @@
+pub mod Changes
+pub mod Intervals
+pub mod Levels
+pub mod Remains
+pub mod Steps
