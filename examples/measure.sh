@@ -1,7 +1,7 @@
 #!/bin/sh
 # Times the built program, and takes its peak memory: on lines that are no request, 16 and 32 MiB of each kind, on puts of
-# different vertices, on requests of 1,000 operations on 100,000 vertices, on queries and drops, and on events of transactions by
-# 35 actors. Of five runs the middle one counts; what queries and drops take is what a script takes more than without them. Needs /usr/bin/time (GNU time) and awk.
+# different vertices, on requests of 1,000 operations on 100,000 vertices, on queries and drops, on events of transactions by
+# 35 actors, and on events beside a snapshot that stays. Of five runs the middle one counts; what queries and drops take is what a script takes more than without them. Needs /usr/bin/time (GNU time) and awk.
 # Usage: sh examples/measure.sh [PROGRAM]
 program=${1:-crates/a1/out/a1}
 folder=$(mktemp -d) || exit 1
@@ -141,4 +141,26 @@ command=steps
 for count in 200000 400000; do
     awk -v count="$count" "$events" > "$folder/script"
     measure "events of 35 actors"
+done
+
+# One transaction that keeps its snapshot from the start on, and one after another of which each updates the next of 1,000
+# objects; behind every tenth event a collection on one node, which can remove nothing.
+pinned='function line(text) { if (n++ < count) print text }
+function place(i) { i %= objects; return i % 3 ":" int(i / 3) }
+BEGIN {
+    objects = 1000
+    for (i = 0; i < objects; i++) line("load " place(i) " " sprintf("%08x", i))
+    line("begin 1.1")
+    for (round = 1; n < count; round++) {
+        line("begin 2." round)
+        line("lock 2." round " " place(round) " " sprintf("%08x", round))
+        line("draw 2." round)
+        line("put 2." round " " place(round))
+        line("shut 2." round)
+        if (round % 2 == 0) line("collect " round % 3)
+    }
+}'
+for count in 250000 500000; do
+    awk -v count="$count" "$pinned" > "$folder/script"
+    measure "events beside an old snapshot"
 done

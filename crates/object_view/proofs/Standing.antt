@@ -142,15 +142,19 @@ rooted_kept : (R : Addr → Bool) (s t : State) (anchor : Addr) (owner d : ℕ) 
     → IsRooted R s anchor owner d b → ((a : Addr) → IsAmong a (anchor ∷ homes (suc d) b) → t a ≡ s a)
     → IsRooted R t anchor owner d b
 rooted_kept R s t anchor owner d b tree keep = record {
-  owner_fits = tree.owner_fits; root_fits = tree.root_fits; low = tree.low; reached = tree.reached;
+  owner_fits = tree.owner_fits;
+  root_fits = tree.root_fits;
+  low = tree.low;
+  reached = tree.reached;
   bytes = keep anchor (inl refl) ∙ tree.bytes;
   sub = record {
     spans = tree.sub.spans;
     node = node_kept R s t (word_of anchor) (root_least d) (addr_of b.word) (map (spell d) b.items) tree.sub.node
         (keep (addr_of b.word) (inr (inl refl)));
     stand = stand_kept R s t (word_of anchor) d b.items tree.sub.stand (λ a i. keep a (inr (inr i)));
-    distinct = tree.sub.distinct };
-  apart = tree.apart
+    distinct = tree.sub.distinct;
+  };
+  apart = tree.apart;
 }
 
 -- equal bytes on its places keep a tree
@@ -158,10 +162,12 @@ pub tree_kept : (nodes : ℕ) (s t : State) (anchor owner : Addr) (pairs : List 
     → IsTree nodes s anchor owner pairs at → ((a : Addr) → IsAmong a at → t a ≡ s a)
     → IsTree nodes t anchor owner pairs at
 tree_kept nodes s t anchor owner pairs at tree keep = record {
-  height = tree.height; root = tree.root;
+  height = tree.height;
+  root = tree.root;
   rooted = rooted_kept (is_on nodes (anchor.region % nodes)) s t anchor (word_of owner) tree.height tree.root tree.rooted
       (λ a i. keep a (subst (λ (xs : List Addr). IsAmong a xs) (sym tree.places_are) i));
-  pairs_are = tree.pairs_are; places_are = tree.places_are
+  pairs_are = tree.pairs_are;
+  places_are = tree.places_are;
 }
 
 -- each of its places has an object
@@ -172,11 +178,11 @@ tree_filled nodes s anchor owner pairs at tree a i =
     let w = tree.rooted in
     let d : ℕ = tree.height in
     full_cons s anchor (homes (suc tree.height) tree.root) (some_not (s anchor) _ w.bytes)
-      (full_cons s (addr_of tree.root.word) (flat_map (homes tree.height) tree.root.items)
-        (node_full R s (word_of anchor) (root_least tree.height) (addr_of tree.root.word)
-          (map (spell tree.height) tree.root.items) w.sub.node)
-        (stand_full R s (word_of anchor) tree.height tree.root.items w.sub.stand))
-      a (subst (λ (xs : List Addr). IsAmong a xs) tree.places_are i)
+    (full_cons s (addr_of tree.root.word) (flat_map (homes tree.height) tree.root.items)
+    (node_full R s (word_of anchor) (root_least tree.height) (addr_of tree.root.word)
+    (map (spell tree.height) tree.root.items) w.sub.node)
+    (stand_full R s (word_of anchor) tree.height tree.root.items w.sub.stand))
+    a (subst (λ (xs : List Addr). IsAmong a xs) tree.places_are i)
 
 -- its anchor is one of its places
 pub tree_self : (nodes : ℕ) (s : State) (anchor owner : Addr) (pairs : List Entry) (at : List Addr)
