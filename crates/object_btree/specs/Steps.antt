@@ -224,11 +224,6 @@ pub record Shared (u t : State) (owner : ℕ) (at a b : Addr) (word : ℕ) (low 
   pub frame : (x : Addr) → (x ≡ at → ⊥) → (x ≡ a → ⊥) → (x ≡ b → ⊥) → t x ≡ u x
   pub firm : thin ≡ false → 16 ≤ length (low ++ e ∷ record { key = here.key; word = word } ∷ high)
 
-abbrev pub Joined : State → State → ℕ → Addr → Addr → Addr → ℕ → List Entry → Entry → List Entry → List Entry → Bool
-    → Type 0
-Joined u t owner at a b word low e high both thin =
-    Merged u t owner at a b low e high both thin ⊎ Shared u t owner at a b word low e high both thin
-
 -- a leaf without a key
 pub record LeafTaken (s t : State) (owner : ℕ) (at : Addr) (k : List ℕ) (es : List Entry) (taken : Taken) : Type 0 where
   pub here : s at ≡ Some (node_bytes owner es) → t at ≡ Some (node_bytes owner (removed k es))
