@@ -57,6 +57,12 @@ pub const PATH_LIMIT: usize = 8;
 /// The most vertices in a working set of a query.
 pub const WORKING_SET_LIMIT: usize = 100_000;
 
+/// The most half-edges of a list that is one object.
+pub const SHORT_LIST_LIMIT: usize = 1_000;
+
+/// A list whose half-edges are in a tree is one object again when so many are left.
+pub const SHORT_LIST_AGAIN: usize = 500;
+
 /// The most regions of a node.
 pub const REGION_LIMIT: u32 = 1_048_576;
 

@@ -1,9 +1,9 @@
 -- Who and what a conflict blames, and the ranges of stamps.
-use Rattle.farm_node.proofs.Common.{◌≡◌, ℕ, ◌<◌, ◌≤◌, List, [], ◌∷◌, ◌++◌, Option, Some, None, Ok, Err, sym, refl, ap, ◌∙◌, subst, inl, inr, ⊎_elim, arith}
-use Rattle.farm_node.proofs.Common.{cond_both, AllByRecursion, Addr, TxnId, IsAmong, same_addr, newest, Hold, Held, Changed, Entry, Made, Read, Alloc}
+use Rattle.farm_node.proofs.Common.{◌≡◌, ℕ, ◌<◌, ◌≤◌, nat_le, leb-true, List, [], ◌∷◌, ◌++◌, Option, Some, None, Ok, Err, sym, refl, ap, ◌∙◌, subst, inl, inr, ⊎_elim, arith}
+use Rattle.farm_node.proofs.Common.{Version, version_at, found_of, found_at, cond_both, AllByRecursion, Addr, TxnId, IsAmong, same_addr, newest, Hold, Held, Changed, Entry, Made, Read, Alloc}
 use Rattle.farm_node.proofs.Common.{Lock, Check, Bytes, Cell, read_answer, lock_answer, check_answer, NodeState, PinnedBy, Fits, loaded_cells, begun, replay}
 use Rattle.farm_node.proofs.Common.{Lawful, Installed, Story, story_from, untold, story, versions_there, Takes, BlamesHolder, BlamesPut}
-use Rattle.farm_node.specs.Locks.{LocksHold, RangesHold}
+use Rattle.farm_node.specs.Locks.{LocksHold, RangesHold, TellsChanged}
 use Rattle.farm_node.proofs.Sound.{Here, Sits, PinOk, sound_begun, sound_end, pinned}
 use Rattle.farm_node.proofs.Steps.{Keeps, keeps_all}
 use Rattle.farm_node.proofs.Stories.{Stands, stands}
@@ -150,8 +150,40 @@ change before rest e r now a lawful blames =
     let by = changed_by (replay before) e r now a blames x.lawful.0 in
     newest_put a by.0 r now before x.begins by.1 by.2
 
+-- what was seen at the read stamp is below what is newest
+
+found_low : (s : ℕ) (vs : List Version) → (found_at s vs).stamp ≤ s
+found_low s [] = omega arith
+found_low s (v ∷ vs) = cond_both (nat_le v.0 s) (Some v) (version_at s vs) (λ o. (found_of o).stamp ≤ s) (λ is. leb-true v.0 s is) (λ e. found_low s vs)
+
+module _ (seen now : ℕ) where
+  lock_apart : (t : TxnId) (r : ℕ) (found : Option Cell) → Err (Changed seen now) ≡ lock_answer t r found → seen < now
+  lock_apart t r None due = absurd cc
+  lock_apart t r (Some c) due = lock_cases t r c (λ z. Err (Changed seen now) ≡ z → seen < now) (λ k is e. absurd (cc))
+      (λ above e. let s : (found_at r c.versions).stamp ≡ seen = cc in let n : newest c.versions ≡ now = cc in omega (arith, found_low r c.versions))
+      (λ is low e. absurd (cc)) (λ k is own e. absurd (cc)) due
+
+  check_apart : (r : ℕ) (found : Option Cell) → Err (Changed seen now) ≡ check_answer r found → seen < now
+  check_apart r None due = absurd cc
+  check_apart r (Some c) due = check_cases r c (λ z. Err (Changed seen now) ≡ z → seen < now) (λ k is e. absurd (cc))
+      (λ above e. let s : (found_at r c.versions).stamp ≡ seen = cc in let n : newest c.versions ≡ now = cc in omega (arith, found_low r c.versions))
+      (λ is low e. absurd (cc)) due
+
+told_apart : (p : NodeState) (e : Entry) (seen now : ℕ) → TellsChanged seen now e → Fits p e → seen < now
+told_apart p (Lock u b q new (Err (Changed s n))) seen now told fits =
+    lock_apart seen now u q (p.cells b) ((λ i. Err (Changed (sym told.0 i) (sym told.1 i))) ∙ fits.due)
+told_apart p (Check u b q w (Err (Changed s n))) seen now told fits =
+    check_apart seen now q (p.cells b) ((λ i. Err (Changed (sym told.0 i) (sym told.1 i))) ∙ fits.due)
+told_apart p e seen now told fits = absurd told
+
+apart : (before rest : List Entry) (e : Entry) (seen now : ℕ) → Lawful (before ++ e ∷ rest) → TellsChanged seen now e → seen < now
+apart before rest (Made m) seen now lawful told = absurd told
+apart before rest e seen now lawful told =
+    let x : Stands (record { region = 0; offset = 0 }) before (e ∷ rest) = stands (record { region = 0; offset = 0 }) before e rest tt lawful in
+    told_apart (replay before) e seen now told x.lawful.0
+
 pub locks : LocksHold
-locks = record { below = below; stays = stays; pin = pin; holder = holder; change = change }
+locks = record { below = below; stays = stays; pin = pin; holder = holder; change = change; apart = apart }
 
 pub ranges : RangesHold
 ranges = record {

@@ -2,7 +2,7 @@
 use Rattle.farm_node.proofs.Common.{◌≡◌, ℕ, max, cond, Bool, true, false, not, ◌&&◌, ◌||◌, List, [], Option, Some, None, Result, Ok, Err, is_some, OnOk, OnErr}
 use Rattle.farm_node.proofs.Common.{sym, refl, ap, ◌∙◌, subst, cond-false, BTreeMap, WritesThrough, is_at, lookup, values_of, Memory, Addr, same_addr}
 use Rattle.farm_node.proofs.Common.{Occupancy, without_place, addr_order, vacant, with_place, Cell, NodeState, set_cell}
-use Rattle.farm_node.proofs.Common.{places, cells_of, plain_from, AgreesWith, IsTracked, waits_there, held_in, lock_count, with_cell, given_back}
+use Rattle.farm_node.proofs.Common.{places, cells_of, AgreesWith, IsTracked, waits_there, held_in, lock_count, given_back}
 use Rattle.std.specs.List.{sum_by}
 use Rattle.std.specs.Option.{IsSome}
 use Rattle.farm_node.proofs.Addresses.{set_cases}

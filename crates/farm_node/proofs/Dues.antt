@@ -1,6 +1,6 @@
 -- What has to wait for collections, what a collection finds where nothing waits for it, and the places of the locks.
 use Rattle.farm_node.proofs.Common.{◌≡◌, ℕ, ◌+◌, ◌<◌, ◌≤◌, nat_le, cond, Bool, true, false, not, ◌&&◌, ◌||◌, List, [], ◌∷◌, Option, Some, None, sym, refl, ap, ◌∙◌, subst}
-use Rattle.farm_node.proofs.Common.{⊎_elim, arith, cond_both, cond-true, cond-false, and_parts, leb-true, or_left, or_right, or_cases, both_ways, and_right, not-true, eqb-true, cases_Bool}
+use Rattle.farm_node.proofs.Common.{⊎_elim, arith, cond_both, cond-false, and_parts, leb-true, or_left, or_right, or_cases, both_ways, and_right, not-true, eqb-true, cases_Bool}
 use Rattle.farm_node.proofs.Common.{BTreeMap, WritesThrough, is_at, lookup, values_of, Addr, same_addr, addr_order, Version, newest, cut, Cell, is_open, is_absent, is_gone, goes}
 use Rattle.farm_node.proofs.Common.{collected, installed, pending_of, set_cell, cells_of, goes_there, versions_there, leaves_old, IsTracked, olds_wait, absent_waits, waits_there}
 use Rattle.farm_node.proofs.Common.{is_newest_absent, is_mark, held_in, held_there, lock_count, ◌-◌, ◌==◌, eq-eqb, Result, Ok, Err, OnOk, OnErr, Memory, TxnId, Hold, Bytes, locked_by}

@@ -1,5 +1,5 @@
 -- The heap of what waits, as the test of which address waits for which stamp.
-use Rattle.farm_node.proofs.Common.{◌≡◌, ℕ, ◌<◌, ◌≤◌, ◌==◌, cond, Bool, true, false, ◌||◌, List, [], ◌∷◌, refl, ap, ◌∙◌, sym, ⊎_elim, arith, both_ways, ne_eqb, AllByRecursion, list_any, Addr, length, slice_index_or, subst, Ordering, nat_cmp}
+use Rattle.farm_node.proofs.Common.{◌≡◌, ℕ, ◌<◌, ◌≤◌, ◌==◌, cond, Bool, false, ◌||◌, List, [], ◌∷◌, refl, ap, ◌∙◌, sym, ⊎_elim, arith, both_ways, ne_eqb, Addr, length, slice_index_or, subst, Ordering, nat_cmp}
 use Rattle.farm_node.proofs.Common.{is_mark, same_addr}
 use Rattle.farm_node.specs.Waiting.{Mark, mark_order, listed_in}
 use Rattle.std.specs.BinaryHeap.{IsUpperBound}

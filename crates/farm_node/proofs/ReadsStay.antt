@@ -104,6 +104,7 @@ pin_above p k x s is = (pinned p k x s (x, is, omega arith)).1
 pub pins : PinsHold
 pins = record {
   floor_below = λ log k x lawful is. pin_above (replay log) k x (sound_end log lawful) is;
+  shown = λ log a s lawful le. (ends a log lawful).tells.shows.same s le;
   kept = λ log k x a s lawful is le.
       let t : Ends a log = ends a log lawful in
       let low : (replay log).floor ≤ x = pin_above (replay log) k x t.sound is in

@@ -1,5 +1,5 @@
 -- What is at one address: the versions of its object, its bound and its lock, and what events make of them.
-use Rattle.std.specs.Prelude.{◌≡◌, ℕ, ◌≤◌, ◌==◌, nat_le, nat_lt, max, cond, Bool, true, false, ◌&&◌, not, List, [], ◌∷◌, length, Option, Some, None, Result, Ok, Err}
+use Rattle.std.specs.Prelude.{◌≡◌, ℕ, ◌≤◌, ◌==◌, nat_le, nat_lt, max, cond, Bool, true, false, ◌&&◌, List, [], ◌∷◌, length, Option, Some, None, Result, Ok, Err}
 use Rattle.a1_base.specs.declared.place.TxnId.{TxnId}
 use Rattle.version_chain.specs.Versions.{Version, Versions, version_at, newest, cut}
 use Rattle.farm_node.specs.declared.hold.Hold.{Hold}

@@ -1,5 +1,5 @@
 -- What every lawful list of a node keeps.
-use Rattle.std.specs.Prelude.{◌≡◌, ◌≢◌, ℕ, ◌<◌, ◌≤◌, List, [], ◌∷◌, ◌++◌, Some, None, Ok}
+use Rattle.std.specs.Prelude.{◌≡◌, ◌≢◌, ℕ, ◌<◌, ◌≤◌, List, ◌∷◌, ◌++◌, Some, None, Ok}
 use Rattle.std.specs.List.{AllByRecursion}
 use Rattle.a1_base.specs.declared.place.Addr.{Addr}
 use Rattle.a1_base.specs.declared.place.TxnId.{TxnId}
@@ -29,7 +29,10 @@ pub record ReadsHold : Type 0 where
 
 pub record PinsHold : Type 0 where
   pub floor_below : (log : List Entry) (k x : ℕ) → Lawful log → (replay log).pins k ≡ Some x → (replay log).floor ≤ x
-  -- from an actor's pin on, the node keeps the value at each stamp
+  -- from the floor on, the node keeps the value at each stamp, whoever is pinned
+  pub shown : (log : List Entry) (a : Addr) (s : ℕ) → Lawful log → (replay log).floor ≤ s
+      → stamped_bytes (found_at s (versions_at (replay log) a)) ≡ value_at log a s
+  -- and so it does from an actor's pin on
   pub kept : (log : List Entry) (k x : ℕ) (a : Addr) (s : ℕ) → Lawful log → (replay log).pins k ≡ Some x → x ≤ s
       → stamped_bytes (found_at s (versions_at (replay log) a)) ≡ value_at log a s
 

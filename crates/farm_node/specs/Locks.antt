@@ -36,6 +36,12 @@ BlamesPut r now a (Lock u b q new (Err (Changed s n))) = (b ≡ a) × (q ≡ r) 
 BlamesPut r now a (Check u b q w (Err (Changed s n))) = (b ≡ a) × (q ≡ r) × (n ≡ now)
 BlamesPut r now a e = ⊥
 
+-- the answer is that the address has changed: its version at the read stamp, and its newest one
+abbrev pub TellsChanged : ℕ → ℕ → Entry → Type 0
+TellsChanged seen now (Lock t a r new (Err (Changed s n))) = (s ≡ seen) × (n ≡ now)
+TellsChanged seen now (Check t a r w (Err (Changed s n))) = (s ≡ seen) × (n ≡ now)
+TellsChanged seen now e = ⊥
+
 pub record LocksHold : Type 0 where
   -- the newest version is at most the bound
   pub below : (log : List Entry) (a : Addr) (c : Cell) → Lawful log → (replay log).cells a ≡ Some c
@@ -55,6 +61,9 @@ pub record LocksHold : Type 0 where
   pub change : (before rest : List Entry) (e : Entry) (r now : ℕ) (a : Addr) → Lawful (before ++ e ∷ rest)
       → BlamesPut r now a e
       → (i : Installed) × IsAmong i (story a before).puts × (i.stamp ≡ now) × (r < now) × (0 < i.by.actor)
+  -- and above the stamp that was seen
+  pub apart : (before rest : List Entry) (e : Entry) (seen now : ℕ) → Lawful (before ++ e ∷ rest)
+      → TellsChanged seen now e → seen < now
 
 abbrev pub StampsBelow : List Version → Type 0
 StampsBelow [] = Unit {0}

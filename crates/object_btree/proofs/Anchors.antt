@@ -11,9 +11,9 @@ use Rattle.object_view.specs.Layout.{Entry, entry, entries, addr_of, word_of}
 use Rattle.object_view.specs.Keys.{Bound, UpTo, Below}
 use Rattle.object_view.specs.Keys.{lookup, removed}
 use Rattle.object_view.specs.Trees.{Branch, Item, spell, homes, contents, places, Sub, root_least, IsRooted, is_on}
-use Rattle.object_view.specs.Parts.{Moves}
+use Rattle.object_view.specs.Parts.{Moves, Tells, Gives}
 use Rattle.object_btree.specs.Changes.{CreateTells}
-use Rattle.object_btree.specs.Steps.{Shrunk, Removes, Tells, Gives, Lowered, LowerAt, RootAt, TreeShrunk, TreeTaken, Created}
+use Rattle.object_btree.specs.Steps.{Shrunk, Removes, Lowered, LowerAt, RootAt, TreeShrunk, TreeTaken, Created}
 use Rattle.object_btree.specs.declared.removal.Taken.{Taken}
 use Rattle.object_btree.proofs.Orders.{low_first}
 use Rattle.object_btree.proofs.Paths.{MapHead, map_head}

@@ -8,7 +8,8 @@ use Rattle.object_view.specs.Layout.{Entry}
 use Rattle.object_view.specs.Keys.{Bound, UpTo, Below}
 use Rattle.object_view.specs.Trees.{Branch, Item, spell, content, homes, Gap, Spans, Stands, Ways, contents, places, Stand, Distinct, Sub}
 use Rattle.object_btree.specs.Levels.{Ahead}
-use Rattle.object_btree.proofs.Paths.{flat_join, all_join, all_left, all_right, Cut, ways_cut, ways_join, ways_within}
+use Rattle.object_btree.proofs.Paths.{flat_join, all_left, all_right, Cut, ways_cut, ways_join, ways_within}
+use Rattle.object_view.proofs.Reading.{all_join}
 use Rattle.object_btree.proofs.Pairing.{AllAbove, AllBelow, all_above, all_below}
 use Rattle.object_view.proofs.Standing.{in_left, in_right, in_or, stand_kept, stand_full, full_cons, Full, Parts, distinct_parts, distinct_swap}
 use Rattle.object_btree.proofs.Grows.{moved, Items, Since, Parted, parted}

@@ -18,7 +18,8 @@ use Rattle.object_btree.specs.declared.nodes.Split.{Split}
 use Rattle.object_btree.specs.declared.insertion.Put.{Put}
 use Rattle.object_view.proofs.Layouts.{some_is}
 use Rattle.object_btree.proofs.Leaves.{fits_put, longer_put, Longer, new_key}
-use Rattle.object_btree.proofs.Paths.{map_join, all_join, all_left, all_right}
+use Rattle.object_btree.proofs.Paths.{map_join, all_left, all_right}
+use Rattle.object_view.proofs.Reading.{all_join}
 use Rattle.object_btree.proofs.Pairing.{put_mid, find_mid, ways_put}
 use Rattle.object_view.proofs.Standing.{node_full, node_kept}
 use Rattle.object_btree.proofs.Grows.{grown_pack, packed_over}

@@ -8,13 +8,12 @@ use Rattle.object_view.specs.Agreement.{State}
 use Rattle.object_view.specs.declared.parts.PartFault.{PartFault}
 use Rattle.object_view.specs.declared.parts.PartFault.TheVariants as part
 use Rattle.object_view.specs.Layout.{Entry, IsEntry, entries, entry_at, head_at, addr_of, node_bytes}
-use Rattle.object_view.specs.Parts.{LookTells, with_bytes}
+use Rattle.object_view.specs.Parts.{LookTells, with_bytes, Tells}
 use Rattle.object_view.specs.Trees.{Distinct}
 use Rattle.object_btree.specs.Remains.{Lost, Each, Standing, Remains, Empties, LeftBelow, LessBy, SeekTells}
-use Rattle.object_btree.specs.Steps.{Tells}
 use Rattle.object_view.proofs.Layouts.{Left, some_left, some_is, head_of_object}
 use Rattle.object_view.proofs.Standing.{in_left, in_right, in_or, node_kept, Parts, distinct_parts, distinct_join}
-use Rattle.object_btree.proofs.Views.{place_or, unlike, here_now, beside, some_not_none, tells_map}
+use Rattle.object_view.proofs.Views.{place_or, unlike, here_now, beside, some_not_none, tells_map}
 use Rattle.object_btree.proofs.Grows.{moved}
 use Rattle.object_btree.proofs.Remaining.{each_kept, lost_kept, remains_kept}
 

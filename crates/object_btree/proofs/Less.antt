@@ -10,13 +10,14 @@ use Rattle.object_view.specs.Keys.{Bound}
 use Rattle.object_view.specs.Keys.{removed}
 use Rattle.object_view.specs.Trees.{Branch, Item, spell, content, homes, Node, Stands, Ways, contents, places, Stand, Distinct, Sub}
 use Rattle.object_btree.specs.Steps.{Shrunk}
-use Rattle.object_btree.proofs.Paths.{flat_join, all_join, ways_join}
+use Rattle.object_btree.proofs.Paths.{flat_join, ways_join}
+use Rattle.object_view.proofs.Reading.{all_join}
 use Rattle.object_btree.proofs.Pairing.{take_mid}
 use Rattle.object_view.proofs.Standing.{in_left, in_right, in_or, stand_kept, node_kept, Parts, distinct_parts, distinct_join}
 use Rattle.object_btree.proofs.Grows.{moved}
 use Rattle.object_btree.proofs.Children.{Among}
 use Rattle.object_btree.proofs.Joins.{Settled}
-use Rattle.object_btree.proofs.Views.{place_or, unlike}
+use Rattle.object_view.proofs.Views.{place_or, unlike}
 
 abbrev content_of : (d : ℕ) → Branch (Item d) → List Entry
 content_of d b = content (suc d) b

@@ -7,14 +7,12 @@ pub mod Intervals
 pub mod Joins
 pub mod Leaves
 pub mod Less
-pub mod Looks
 pub mod Orders
 pub mod Outcomes
 pub mod Packs
 pub mod Pairing
 pub mod Paths
 pub mod RangeSteps
-pub mod Reading
 pub mod Remaining
 pub mod Removals
 pub mod Repairs
@@ -25,4 +23,3 @@ pub mod Scans
 pub mod Shares
 pub mod Shrinks
 pub mod Takes
-pub mod Views

@@ -6,6 +6,7 @@ use Rattle.object_view.specs.Layout.{Entry}
 use Rattle.object_view.specs.Keys.{Bound, UpTo, Below, Path}
 use Rattle.object_view.specs.Trees.{Item, spell, content, Gap, Spans, Ways, contents}
 use Rattle.object_btree.proofs.Orders.{upto_refl, upto_trans, upto_below, below_upto}
+use Rattle.object_view.proofs.Reading.{all_join}
 
 -- ---- lists
 
@@ -18,11 +19,6 @@ flat_join f (x ∷ xs) ys = ap (λ t. f x ++ t) (flat_join f xs ys)
 pub map_join : {A B : Type 0} (f : A → B) (xs ys : List A) → map f (xs ++ ys) ≡ map f xs ++ map f ys
 map_join f [] ys = refl
 map_join f (x ∷ xs) ys = ap (λ t. f x ∷ t) (map_join f xs ys)
-
-pub all_join : {A : Type 0} (P : A → Type 0) (xs ys : List A) → AllByRecursion P xs → AllByRecursion P ys
-    → AllByRecursion P (xs ++ ys)
-all_join P [] ys p q = q
-all_join P (x ∷ xs) ys p q = (p.0, all_join P xs ys p.1 q)
 
 pub all_left : {A : Type 0} (P : A → Type 0) (xs ys : List A) → AllByRecursion P (xs ++ ys) → AllByRecursion P xs
 all_left P [] ys p = tt

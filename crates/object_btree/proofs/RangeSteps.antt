@@ -6,16 +6,16 @@ use Rattle.a1_base.specs.declared.place.Addr.{Addr}
 use Rattle.object_view.specs.Agreement.{State, Seen}
 use Rattle.object_view.specs.declared.parts.PartFault.{PartFault}
 use Rattle.object_view.specs.Layout.{Entry, IsEntry, entries, entry_at, addr_of, word_of}
-use Rattle.object_view.specs.Parts.{ReadsOnly}
+use Rattle.object_view.specs.Parts.{ReadsOnly, Tells}
 use Rattle.object_view.specs.Keys.{Bound, compare}
 use Rattle.object_btree.specs.Intervals.{is_less, between, gathered, Pair}
 use Rattle.object_view.specs.Trees.{Branch, Item, spell, content, Node, Stand, Ways, contents, IsRooted}
 use Rattle.std.specs.declared.cmp.Ordering.TheVariants.{Less}
 use Rattle.std.proofs.lemmas.List.{length-append, length-take}
 use Rattle.object_btree.specs.Levels.{Ahead, Visits}
-use Rattle.object_btree.specs.Steps.{Begins, Tells}
+use Rattle.object_btree.specs.Steps.{Begins}
 use Rattle.object_view.proofs.Layouts.{Left, some_left}
-use Rattle.object_btree.proofs.Views.{tells_map}
+use Rattle.object_view.proofs.Views.{tells_map}
 use Rattle.object_btree.proofs.Paths.{MapHead, map_head}
 use Rattle.object_btree.proofs.Down.{spell_pairs, pairs_flat}
 use Rattle.object_btree.proofs.Intervals.{between_join, item_high, branch_low, gather_join, gather_all, gather_take}

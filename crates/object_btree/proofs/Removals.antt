@@ -12,10 +12,11 @@ use Rattle.object_view.specs.Keys.{Bound, UpTo, Below}
 use Rattle.object_view.specs.Keys.{lookup, removed}
 use Rattle.object_view.specs.Trees.{Branch, Item, spell, Stands, Ways, contents, places, Stand, Distinct, Sub}
 use Rattle.object_btree.specs.Levels.{Ahead}
-use Rattle.object_btree.specs.Steps.{Begins, Shrunk, Removes, LeafTaken, PairAt, JoinedAt, Tells}
+use Rattle.object_btree.specs.Steps.{Begins, Shrunk, Removes, LeafTaken, PairAt, JoinedAt}
+use Rattle.object_view.specs.Parts.{Tells}
 use Rattle.object_btree.specs.declared.removal.Taken.{Taken}
 use Rattle.object_view.proofs.Layouts.{some_is}
-use Rattle.object_btree.proofs.Views.{tells_map}
+use Rattle.object_view.proofs.Views.{tells_map}
 use Rattle.object_btree.proofs.Paths.{map_join, all_left, all_right}
 use Rattle.object_btree.proofs.Pairing.{ways_take, find_mid}
 use Rattle.object_view.proofs.Standing.{node_full}

@@ -10,8 +10,10 @@ use Rattle.object_view.specs.Agreement.{State}
 use Rattle.object_view.specs.Layout.{Entry, IsEntry, addr_of, node_bytes}
 use Rattle.object_view.specs.Keys.{Bound}
 use Rattle.object_view.specs.Trees.{Branch, Item, spell, places, Sub}
-use Rattle.object_btree.specs.Steps.{Shrunk, Merged, Shared, PairAt, JoinedAt, Tells}
-use Rattle.object_btree.proofs.Paths.{map_join, all_join, all_left, all_right}
+use Rattle.object_btree.specs.Steps.{Shrunk, Merged, Shared, PairAt, JoinedAt}
+use Rattle.object_view.specs.Parts.{Tells}
+use Rattle.object_btree.proofs.Paths.{map_join, all_left, all_right}
+use Rattle.object_view.proofs.Reading.{all_join}
 use Rattle.object_view.proofs.Standing.{in_right}
 use Rattle.object_btree.proofs.Joins.{Two, Settled, Spots, spots, settle_merged}
 use Rattle.object_btree.proofs.Shares.{settle_shared}

@@ -9,7 +9,7 @@ use Rattle.object_view.specs.Trees.{IsTree, is_on}
 use Rattle.object_btree.specs.Remains.{Remains, Each, LeftBelow, LessBy, IsLeft, IsRest, Destroys, Empties}
 use Rattle.object_btree.proofs.Freeing.{Gone, among_or}
 use Rattle.object_btree.proofs.Remaining.{tree_left, remains_kept}
-use Rattle.object_btree.proofs.Views.{some_not_none}
+use Rattle.object_view.proofs.Views.{some_not_none}
 
 -- a whole tree is a rest
 pub tree_rest : (nodes : ℕ) (s : State) (anchor owner : Addr) (pairs : List Entry) (at : List Addr)

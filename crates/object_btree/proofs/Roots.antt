@@ -12,9 +12,9 @@ use Rattle.object_view.specs.Layout.{Entry, IsEntry, addr_of, word_of, anchor_by
 use Rattle.object_view.specs.Keys.{Bound, UpTo, Below}
 use Rattle.object_view.specs.Keys.{lookup, inserted}
 use Rattle.object_view.specs.Trees.{Branch, Item, spell, homes, Spans, Node, Ways, contents, places, Stand, Distinct, Sub, root_least, IsRooted, is_on, IsTree, Becomes}
-use Rattle.object_view.specs.Parts.{Moves}
+use Rattle.object_view.specs.Parts.{Moves, Tells}
 use Rattle.object_btree.specs.Changes.{InsertTells}
-use Rattle.object_btree.specs.Steps.{Grown, Inserts, TreeGrown, TreePut, NewRoot, Tells}
+use Rattle.object_btree.specs.Steps.{Grown, Inserts, TreeGrown, TreePut, NewRoot}
 use Rattle.object_btree.specs.declared.nodes.Split.{Split}
 use Rattle.object_btree.specs.declared.insertion.Put.{Put}
 use Rattle.object_btree.proofs.Orders.{low_first}

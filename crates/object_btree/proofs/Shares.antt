@@ -9,7 +9,8 @@ use Rattle.object_view.specs.Layout.{Entry, IsEntry, addr_of}
 use Rattle.object_view.specs.Keys.{Bound}
 use Rattle.object_view.specs.Trees.{Branch, Item, spell, content, homes, Gap, Spans, Node, Stands, Ways, contents, places, Stand, Distinct}
 use Rattle.object_btree.specs.Steps.{Shared}
-use Rattle.object_btree.proofs.Paths.{flat_join, map_join, all_join, all_left, all_right, Cut, ways_cut, ways_join, Halves, ways_halves}
+use Rattle.object_btree.proofs.Paths.{flat_join, map_join, all_left, all_right, Cut, ways_cut, ways_join, Halves, ways_halves}
+use Rattle.object_view.proofs.Reading.{all_join}
 use Rattle.object_view.proofs.Standing.{in_left, in_right, in_or, stand_kept, Parts, distinct_parts, distinct_join}
 use Rattle.object_btree.proofs.Grows.{moved, Parted, parted}
 use Rattle.object_btree.proofs.Joins.{Two, Settled, Spots, spots}

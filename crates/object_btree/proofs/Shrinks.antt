@@ -12,7 +12,7 @@ use Rattle.object_view.specs.Trees.{Branch, Item, spell, homes, Spans, Node, Way
 use Rattle.object_btree.specs.Steps.{Shrunk, Lowered}
 use Rattle.object_view.proofs.Standing.{stand_kept, node_kept}
 use Rattle.object_btree.proofs.Grows.{moved}
-use Rattle.object_btree.proofs.Views.{place_or, unlike}
+use Rattle.object_view.proofs.Views.{place_or, unlike}
 
 pub record LowerTree (R : Addr → Bool) (s t : State) (anchor : Addr) (own d : ℕ) (old : List Addr) (want : List Entry) :
     Type 0 where

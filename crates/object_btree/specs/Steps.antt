@@ -3,7 +3,7 @@ use Rattle.std.specs.Prelude.{◌≡◌, ◌⊎◌, ℕ, suc, ◌+◌, ◌-◌, 
 use Rattle.std.specs.List.{AllByRecursion}
 use Rattle.a1_base.specs.Lists.{IsAmong}
 use Rattle.a1_base.specs.declared.place.Addr.{Addr}
-use Rattle.object_view.specs.Agreement.{State, Heap, Overlay, Seen, Agrees, stood}
+use Rattle.object_view.specs.Agreement.{State}
 use Rattle.object_view.specs.declared.parts.PartFault.{PartFault}
 use Rattle.object_view.specs.declared.parts.PartFault.TheVariants as part
 use Rattle.object_view.specs.Layout.{Entry, IsEntry, entries, addr_of, word_of, node_bytes, anchor_bytes}
@@ -14,23 +14,6 @@ use Rattle.object_btree.specs.Levels.{Ahead, Full, TooTall}
 use Rattle.object_btree.specs.declared.nodes.Split.{Split}
 use Rattle.object_btree.specs.declared.insertion.Put.{Put}
 use Rattle.object_btree.specs.declared.removal.Taken.{Taken}
-
--- an answer of a change: Torn can't be where the part stands, and Tall is said elsewhere
-abbrev pub Tells : {A : Type 0} → Result A PartFault → (A → Type 0) → Type 0
-Tells (Ok x) P = P x
-Tells (Err part.Memory) P = ⊤
-Tells (Err (part.Spent n)) P = ⊤
-Tells (Err _) P = ⊥
-
--- an answer of a look
-abbrev pub Gives : {A : Type 0} → Result A PartFault → A → Type 0
-Gives (Ok x) want = x ≡ want
-Gives (Err part.Memory) want = ⊤
-Gives (Err _) want = ⊥
-
--- what stands in the earlier view stands in the later
-abbrev pub Lasts : List Seen → Overlay → Overlay → Type 0
-Lasts trace old new = (h : Heap) → Agrees h trace new → (a : Addr) → stood h new a ≡ None → stood h old a ≡ None
 
 -- where a key stands among entries: those before it, those from it on, and its word
 pub record Place (k : List ℕ) (es : List Entry) (front : List ℕ) (back : List ℕ) (found : Option ℕ) : Type 0 where

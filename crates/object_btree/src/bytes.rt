@@ -1,10 +1,8 @@
 //! How anchors, nodes and entries are spelled.
 ghost use Rattle.std.specs.Prelude.{◌≡◌, ◌<◌, ◌^◌, ◌++◌, [], ◌∷◌, ℕ, List, length, None, Some, MatchOption, IfSome, IfOk};
 ghost use Rattle.std.specs.Int.{w64, to_be_bytes};
-ghost use Rattle.a1_base.specs.declared.place.Addr.{Addr};
-ghost use Rattle.object_view.specs.Layout.{Entry, entry, entries, entry_at, head_at, owner_at, addr_of, word_of, anchor_bytes, node_bytes, object_bytes};
+ghost use Rattle.object_view.specs.Layout.{Entry, entry, entries, entry_at, head_at, owner_at, anchor_bytes, node_bytes, object_bytes};
 
-use a1_base::Addr;
 use std::alloc::{AllocError, Global};
 
 /// The kind of an anchor.
@@ -63,23 +61,6 @@ pub fn head_of(bytes: &[u8], kind: u8) -> Option<(u64, &[u8])>
             }
             word_front(rest)
         }
-    }
-}
-
-/// An address as a word.
-pub fn word_of(at: Addr) -> u64
-    ensures { result ≡ word_of at }
-{
-    at.region as u64 * 4294967296 + at.offset as u64
-}
-
-/// A word as an address.
-pub fn addr_of(word: u64) -> Addr
-    ensures { result ≡ addr_of word }
-{
-    Addr {
-        region: (word / 4294967296) as u32,
-        offset: (word % 4294967296) as u32,
     }
 }
 

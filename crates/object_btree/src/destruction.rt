@@ -4,15 +4,14 @@ ghost use Rattle.std.specs.List.{AllByRecursion};
 ghost use Rattle.a1_base.specs.declared.place.Addr.{Addr};
 ghost use Rattle.object_view.specs.Agreement.{Heap, Agrees, stood};
 ghost use Rattle.object_view.specs.Layout.{Entry, IsEntry, entries, head_at};
-ghost use Rattle.object_view.specs.Parts.{Onward, with_bytes};
+ghost use Rattle.object_view.specs.Parts.{Onward, with_bytes, Tells};
 ghost use Rattle.object_view.specs.Trees.{Distinct, is_on};
 ghost use Rattle.object_btree.specs.Remains.{LeftBelow, SeekTells, LessBy};
-ghost use Rattle.object_btree.specs.Steps.{Tells};
 
-use crate::bytes::{NODE, addr_of, entry_of, head_of};
+use crate::bytes::{NODE, entry_of, head_of};
 use crate::nodes::Site;
 use a1_base::{Addr, Bin};
-use object_view::{PartFault, View, look, take};
+use object_view::{PartFault, View, addr_of, look, take};
 use std::alloc::Global;
 use std::sync::Wait;
 

@@ -6,15 +6,15 @@ ghost use Rattle.object_view.specs.Agreement.{Heap, Agrees, stood};
 ghost use Rattle.object_view.specs.Calls.{StandsIn};
 ghost use Rattle.object_view.specs.Keys.{Bound, UpTo, Below, lookup, inserted};
 ghost use Rattle.object_view.specs.Layout.{Entry, IsEntry, entries, addr_of, word_of};
-ghost use Rattle.object_view.specs.Parts.{Onward};
+ghost use Rattle.object_view.specs.Parts.{Onward, Tells, Lasts};
 ghost use Rattle.object_view.specs.Trees.{Branch, Item, Sub, is_on};
-ghost use Rattle.object_btree.specs.Steps.{Tells, Lasts, Packed, Inserts, NewRoot};
+ghost use Rattle.object_btree.specs.Steps.{Packed, Inserts, NewRoot};
 
-use crate::bytes::{addr_of, anchored, node_of, root_entries, with_entry, word_of};
+use crate::bytes::{anchored, node_of, root_entries, with_entry};
 use crate::nodes::{Site, Split, make_node, pack};
 use crate::scan::{place_in, route_in};
 use a1_base::Addr;
-use object_view::{PartFault, View, look, store};
+use object_view::{PartFault, View, addr_of, look, store, word_of};
 use std::alloc::Global;
 use std::sync::Wait;
 

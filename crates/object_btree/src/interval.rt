@@ -5,17 +5,16 @@ ghost use Rattle.a1_base.specs.declared.place.Addr.{Addr};
 ghost use Rattle.object_view.specs.Agreement.{Heap, Agrees, stood};
 ghost use Rattle.object_view.specs.Keys.{Bound};
 ghost use Rattle.object_view.specs.Layout.{Entry, IsEntry, entries};
-ghost use Rattle.object_view.specs.Parts.{Onward, ReadsOnly};
+ghost use Rattle.object_view.specs.Parts.{Onward, ReadsOnly, Tells};
 ghost use Rattle.object_view.specs.Trees.{Item, Ways, Stand, spell, contents, is_on};
 ghost use Rattle.object_btree.specs.Intervals.{between, gathered};
 ghost use Rattle.object_btree.specs.Levels.{Visits};
-ghost use Rattle.object_btree.specs.Steps.{Tells};
 
-use crate::bytes::{addr_of, entry_of, node_of};
+use crate::bytes::{entry_of, node_of};
 use crate::nodes::Site;
 use crate::scan::{begins_upto, is_below};
 use a1_base::{Addr, Bin};
-use object_view::{PartFault, View, look};
+use object_view::{PartFault, View, addr_of, look};
 use std::alloc::{AllocError, Global};
 use std::sync::Wait;
 

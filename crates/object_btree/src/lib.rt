@@ -16,4 +16,6 @@ mod scan;
 mod tests;
 mod tree;
 
+pub use bytes::{entry_of, with_entry};
+pub use scan::place_in;
 pub use tree::Tree;

@@ -5,15 +5,14 @@ ghost use Rattle.a1_base.specs.declared.place.Addr.{Addr};
 ghost use Rattle.object_view.specs.Agreement.{Heap, Agrees, stood};
 ghost use Rattle.object_view.specs.Keys.{Bound, UpTo, Below, lookup};
 ghost use Rattle.object_view.specs.Layout.{Entry, IsEntry, entries, addr_of};
-ghost use Rattle.object_view.specs.Parts.{Onward};
+ghost use Rattle.object_view.specs.Parts.{Onward, Gives};
 ghost use Rattle.object_view.specs.Trees.{Branch, Item, Sub, contents, is_on};
-ghost use Rattle.object_btree.specs.Steps.{Gives};
 
-use crate::bytes::{addr_of, node_of};
+use crate::bytes::node_of;
 use crate::nodes::Site;
 use crate::scan::{place_in, route_in};
 use a1_base::Addr;
-use object_view::{PartFault, View, look};
+use object_view::{PartFault, View, addr_of, look};
 use std::alloc::Global;
 use std::sync::Wait;
 

@@ -5,14 +5,14 @@ ghost use Rattle.a1_base.specs.declared.place.Addr.{Addr};
 ghost use Rattle.object_view.specs.Agreement.{Heap, Agrees, stood};
 ghost use Rattle.object_view.specs.Calls.{StandsIn, IsPlace};
 ghost use Rattle.object_view.specs.Layout.{Entry, IsEntry, entries, object_bytes};
-ghost use Rattle.object_view.specs.Parts.{Onward, with_bytes};
+ghost use Rattle.object_view.specs.Parts.{Onward, with_bytes, Tells, Lasts};
 ghost use Rattle.object_view.specs.Trees.{is_on};
-ghost use Rattle.object_btree.specs.Steps.{Tells, Lasts, Packed};
+ghost use Rattle.object_btree.specs.Steps.{Packed};
 
-use crate::bytes::{entry_of, spelled, word_of};
+use crate::bytes::{entry_of, spelled};
 use crate::scan::{count_in, split_in};
 use a1_base::{Addr, Bin};
-use object_view::{PartFault, View, make, store};
+use object_view::{PartFault, View, make, store, word_of};
 use std::alloc::Global;
 use std::sync::Wait;
 

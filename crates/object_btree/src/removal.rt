@@ -6,15 +6,15 @@ ghost use Rattle.object_view.specs.Agreement.{Heap, Agrees, stood};
 ghost use Rattle.object_view.specs.Calls.{StandsIn};
 ghost use Rattle.object_view.specs.Keys.{Bound, UpTo, Below};
 ghost use Rattle.object_view.specs.Layout.{Entry, IsEntry, entries, addr_of, word_of};
-ghost use Rattle.object_view.specs.Parts.{Onward};
+ghost use Rattle.object_view.specs.Parts.{Onward, Tells};
 ghost use Rattle.object_view.specs.Trees.{Branch, Item, Sub, is_on};
-ghost use Rattle.object_btree.specs.Steps.{Tells, MergedAt, SharedAt, PairAt, JoinedAt, LeafTaken, Removes, Lowered, LowerAt, RootAt};
+ghost use Rattle.object_btree.specs.Steps.{MergedAt, SharedAt, PairAt, JoinedAt, LeafTaken, Removes, Lowered, LowerAt, RootAt};
 
-use crate::bytes::{addr_of, anchored, appended, entry_of, node_of, with_entry};
+use crate::bytes::{anchored, appended, entry_of, node_of, with_entry};
 use crate::nodes::{Site, put_node};
 use crate::scan::{count_in, last_of, place_in, route_in, split_in};
 use a1_base::{Addr, Bin};
-use object_view::{PartFault, View, look, store, take};
+use object_view::{PartFault, View, addr_of, look, store, take};
 use std::alloc::Global;
 use std::sync::Wait;
 

@@ -1,8 +1,8 @@
 use crate::Tree;
-use crate::bytes::{addr_of, anchor_of, entry_of, node_of, word_of};
+use crate::bytes::{anchor_of, entry_of, node_of};
 use crate::scan::count_in;
 use a1_base::Addr;
-use object_view::{MemView, PartFault, look};
+use object_view::{MemView, PartFault, addr_of, look, word_of};
 use std::alloc::Global;
 use std::sync::Wait;
 use std::test::Fail;

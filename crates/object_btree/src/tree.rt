@@ -5,15 +5,14 @@ ghost use Rattle.object_view.specs.Agreement.{Heap, Agrees, stood};
 ghost use Rattle.object_view.specs.Calls.{IsPlace};
 ghost use Rattle.object_view.specs.Keys.{lookup};
 ghost use Rattle.object_view.specs.Layout.{Entry};
-ghost use Rattle.object_view.specs.Parts.{Onward, ReadsOnly};
+ghost use Rattle.object_view.specs.Parts.{Onward, ReadsOnly, Tells, Gives};
 ghost use Rattle.object_view.specs.Trees.{IsTree};
 ghost use Rattle.object_btree.specs.Changes.{InsertTells, RemoveTells, CreateTells};
 ghost use Rattle.object_btree.specs.Intervals.{between};
 ghost use Rattle.object_btree.specs.Levels.{RangeReads};
 ghost use Rattle.object_btree.specs.Remains.{IsRest, Destroys};
-ghost use Rattle.object_btree.specs.Steps.{Tells, Gives};
 
-use crate::bytes::{addr_of, anchor_of, anchored, node_of, with_entry, word_of};
+use crate::bytes::{anchor_of, anchored, node_of, with_entry};
 use crate::destruction::{destroy_in, free_at, seek};
 use crate::insertion::{Put, insert_at, new_root};
 use crate::interval::range_in;
@@ -21,7 +20,7 @@ use crate::lookup::get_at;
 use crate::nodes::{Site, make_node};
 use crate::removal::{lower, remove_at};
 use a1_base::{Addr, Bin};
-use object_view::{PartFault, View, look, make, store};
+use object_view::{PartFault, View, addr_of, look, make, store, word_of};
 use std::alloc::Global;
 use std::sync::Wait;
 

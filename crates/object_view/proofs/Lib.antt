@@ -9,3 +9,5 @@ pub mod Places
 pub mod Settled
 pub mod Standing
 pub mod Writing
+pub mod Reading
+pub mod Views

@@ -5,7 +5,7 @@ use Rattle.a1_base.specs.Lists.{IsAmong}
 use Rattle.a1_base.specs.declared.place.Addr.{Addr}
 use Rattle.object_view.specs.declared.parts.PartFault.{PartFault}
 use Rattle.object_view.specs.declared.parts.PartFault.TheVariants as fault
-use Rattle.object_view.specs.Agreement.{Seen, Heap, Overlay, State, Agrees, same_addr}
+use Rattle.object_view.specs.Agreement.{Seen, Heap, Overlay, State, Agrees, stood, same_addr}
 use Rattle.object_view.specs.Calls.{IsSteady}
 
 -- from a view to a later one: what agrees with the later agrees with the earlier
@@ -36,3 +36,20 @@ LookTells a served here (Ok bytes) = (served ≡ true) × (here ≡ Some bytes)
 LookTells a served here (Err fault.Memory) = ⊤
 LookTells a served here (Err (fault.Torn at)) = (at ≡ a) × (served ≡ true → here ≡ None)
 LookTells a served here (Err _) = ⊥
+
+-- an answer of a change: Torn and Tall can't be where the part stands
+abbrev pub Tells : {A : Type 0} → Result A PartFault → (A → Type 0) → Type 0
+Tells (Ok x) P = P x
+Tells (Err fault.Memory) P = ⊤
+Tells (Err (fault.Spent n)) P = ⊤
+Tells (Err _) P = ⊥
+
+-- an answer of a look: what is wanted, unless memory was wanting
+abbrev pub Gives : {A : Type 0} → Result A PartFault → A → Type 0
+Gives (Ok x) want = x ≡ want
+Gives (Err fault.Memory) want = ⊤
+Gives (Err _) want = ⊥
+
+-- what stands in the earlier view stands in the later
+abbrev pub Lasts : List Seen → Overlay → Overlay → Type 0
+Lasts trace old new = (h : Heap) → Agrees h trace new → (a : Addr) → stood h new a ≡ None → stood h old a ≡ None

@@ -1,6 +1,6 @@
 -- A tree of objects: an ordered map from keys to words, in nodes of 16 to 32 entries. A tree is first a plain value,
 -- whose type goes by its height; a record says that it stands in a state.
-use Rattle.std.specs.Prelude.{◌≡◌, ◌⊎◌, ℕ, zero, suc, ◌+◌, ◌%◌, ◌<◌, ◌^◌, ◌≤◌, Bool, true, ◌==◌, List, [], ◌∷◌, ◌++◌, length, map, Option, Some, None, ⊤}
+use Rattle.std.specs.Prelude.{◌≡◌, ℕ, zero, suc, ◌%◌, ◌<◌, ◌^◌, ◌≤◌, Bool, true, ◌==◌, List, [], ◌∷◌, length, map, Some, None, ⊤}
 use Rattle.std.specs.List.{AllByRecursion, flat_map}
 use Rattle.a1_base.specs.Lists.{IsAmong}
 use Rattle.a1_base.specs.declared.place.Addr.{Addr}

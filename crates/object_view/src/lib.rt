@@ -9,7 +9,9 @@ mod parts;
 #[cfg(test)]
 mod tests;
 mod view;
+mod words;
 
 pub use mem_view::MemView;
 pub use parts::{PartFault, look, make, store, take};
 pub use view::{Object, View, ViewFault};
+pub use words::{addr_of, word_of};

@@ -7,7 +7,7 @@ ghost use Rattle.object_view.specs.Parts.{Onward, ReadsOnly, LookTells, with_byt
 ghost use Rattle.object_view.specs.declared.parts.PartFault.TheVariants as fault;
 
 use crate::view::{View, ViewFault};
-use a1_base::{Addr, Bin};
+use a1_base::{Addr, Bin, Memory};
 use std::alloc::{AllocError, Global};
 use std::sync::Wait;
 
@@ -34,6 +34,14 @@ impl From<ViewFault> for PartFault {
             ViewFault::Memory => PartFault::Memory,
             ViewFault::Spent { node } => PartFault::Spent { node },
         }
+    }
+}
+
+impl From<Memory> for PartFault {
+    ghost from_gives = { λ _ part. part ≡ fault.Memory };
+
+    fn from(_: Memory) -> Self {
+        PartFault::Memory
     }
 }
 

@@ -12,8 +12,15 @@ use crate::rule::{Counted, Drew, Looked, News, Went};
 use crate::view::View;
 use atomic_table::Seat;
 use crossbeam_utils::Backoff;
+use std::hint;
 use std::marker::Brand;
 use std::sync::Wait;
+
+/// A look pauses, and does not yield, while at most so many tickets are before its own,
+const NEAR: u64 = 4;
+
+/// and at most so often.
+const PAUSES: u32 = 120;
 
 impl<T: Keeps> Turnstile<T> {
     // Draws a ticket.
@@ -26,7 +33,8 @@ impl<T: Keeps> Turnstile<T> {
         self.table.shared.fetch_add::<Drew>(seat, TICKET, 1)
     }
 
-    // Waits until the ticket is served, and then has the slot.
+    // Waits until the ticket is served, and then has the slot. While few tickets are before its own it pauses shortly, so
+    // that the turn is taken as soon as it comes; where many are, or a turn does not come, it lets other threads run.
     fn look<R: Wait>(&self, rt: &R, seat: &mut Seat<Option<T>, View<T::Entry>>, ticket: u64)
         requires table { seat.old.table_id ≡ self.now.table.shared.table_id }
         requires waits { IsWaiting seat.old.me ticket }
@@ -34,11 +42,18 @@ impl<T: Keeps> Turnstile<T> {
         ensures entered { (d : ℕ) × Entered T.stands T.number d seat.old.me.0 seat.new.me }
     {
         let backoff = Backoff::new();
+        let mut pauses: u32 = 0;
         for _ in rt.forever() {
-            if self.table.shared.load::<Looked<T>>(seat, SERVING) == ticket {
+            let serving = self.table.shared.load::<Looked<T>>(seat, SERVING);
+            if serving == ticket {
                 return;
             }
-            backoff.snooze();
+            if ticket.wrapping_sub(serving) <= NEAR && pauses < PAUSES {
+                pauses += 1;
+                hint::spin_loop();
+            } else {
+                backoff.snooze();
+            }
         }
         unreachable!()
     }

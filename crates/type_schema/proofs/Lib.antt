@@ -5,3 +5,6 @@ pub mod LayoutLemmas
 pub mod CheckLemmas
 pub mod KeyOrderLemmas
 pub mod AddLemmas
+pub mod ObjectLemmas
+pub mod Apart
+pub mod Staying

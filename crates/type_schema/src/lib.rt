@@ -12,6 +12,7 @@ mod laws;
 mod layout;
 mod merging;
 mod names;
+mod objects;
 mod opening;
 mod refusal;
 mod rows;
@@ -22,10 +23,15 @@ mod tests;
 
 pub use checking::{check, key, key_of, value_in};
 pub use form::{is_type, name_of};
-pub use laws::layouts_read_back;
+pub use laws::{layouts_read_back, objects_read_back, structures_stay};
 pub use layout::{front_name, front_record, front_schema, push_name, push_record, push_schema};
 pub use merging::{add, merge};
 pub use names::{EdgeName, GraphName, TypeName, VertexName, whole_graph};
+pub use objects::{
+    EDGE_BODY, GraphRef, HALF_LIST, HEADER, Half, Header, VERTEX_BODY, body_bytes, body_of,
+    half_key, half_of, header_bytes, header_of, index_key, list_of, long_bytes, long_of,
+    short_bytes,
+};
 pub use opening::{FIRST_NUMBER, NAME_TYPE, NAMES, NAMES_NUMBER, SYSTEM_TENANT};
 pub use refusal::{GraphFault, Refusal, Word, refuse, refuse_at};
 pub use rows::{Change, Changes, RowChange, StoreKey, StoreValue, TypeSchema};

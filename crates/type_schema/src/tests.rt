@@ -8,6 +8,8 @@ use a1_value::{Given, Value};
 use std::alloc::{AllocError, Global};
 use std::test::Fail;
 
+mod objects;
+
 // A schema of attributes by name, kind and index.
 fn schema(alloc: Global, listed: &[(&str, Kind, bool)]) -> Result<Schema, AllocError> {
     let mut attrs = Vec::new(alloc);

@@ -1,4 +1,4 @@
-use Rattle.farm_node.proofs.Common.{◌≡◌, ◌+◌, Some, ap, ◌∙◌, arith, cells_of, set_cell, held_in, held_there, lock_count}
+use Rattle.farm_node.proofs.Common.{◌≡◌, Some, ap, ◌∙◌, arith, cells_of, held_there}
 use Rattle.farm_node.proofs.CellMaps.{put_and_taken}
 use Rattle.farm_node.proofs.Addresses.{set_self}
 use Rattle.farm_node.proofs.node.insert_at.Goals as goal

@@ -7,7 +7,7 @@ use Rattle.object_view.specs.Trees.{is_on}
 use Rattle.object_view.proofs.Layouts.{none_left, none_more, some_is}
 use Rattle.object_btree.specs.Remains.{LessBy}
 use Rattle.object_view.proofs.Moving.{onward_then}
-use Rattle.object_btree.proofs.Views.{tells_from, on_served, some_not_none}
+use Rattle.object_view.proofs.Views.{tells_from, on_served, some_not_none}
 use Rattle.object_btree.proofs.Packs.{small}
 use Rattle.object_btree.proofs.Freeing.{none_less, no_left, drop_step, DropStep, skip_tells, DropTells, drop_as, Found, found, Kept, stop_less, still_full, served_later, seek_err, Gone, all_gone, rest_left, go_less, there_distinct, under_distinct}
 use Rattle.object_btree.proofs.destruction.+destroy_in.Goals as goal

@@ -2,7 +2,7 @@ use Rattle.std.proofs.Common.{Bool, None, ap, ◌∙◌}
 use Rattle.object_view.specs.Agreement.{stood}
 use Rattle.object_view.specs.Parts.{with_bytes}
 use Rattle.object_view.proofs.Moving.{onward_then}
-use Rattle.object_btree.proofs.Views.{stored_result, tells_from}
+use Rattle.object_view.proofs.Views.{stored_result, tells_from}
 use Rattle.object_btree.proofs.Freeing.{look_full}
 use Rattle.object_btree.proofs.destruction.free_at.Goals as goal
 

@@ -6,7 +6,7 @@ use Rattle.object_view.specs.Keys.{inserted}
 use Rattle.object_view.specs.Trees.{is_on, Sub}
 use Rattle.object_btree.specs.Steps.{Route, Packed}
 use Rattle.object_view.proofs.Moving.{onward_then}
-use Rattle.object_btree.proofs.Views.{tells_from, look_err, on_served, tells_map, lasts_then, same_lasts, ok_lasts_then, stands_later}
+use Rattle.object_view.proofs.Views.{tells_from, look_err, on_served, tells_map, lasts_then, same_lasts, ok_lasts_then, stands_later}
 use Rattle.object_btree.proofs.Down.{LeafAt, leaf_at, DownAt, down_at, ChildAt, RouteParts, route_parts, done_none, done_some, some_short}
 use Rattle.object_btree.proofs.Grows.{packed_over}
 use Rattle.object_btree.proofs.insertion.+insert_at.Goals as goal

@@ -4,7 +4,7 @@ use Rattle.object_view.specs.Agreement.{stood, State}
 use Rattle.object_view.specs.Layout.{Entry, IsEntry, entries, addr_of, object_bytes}
 use Rattle.object_view.specs.Trees.{is_on}
 use Rattle.object_view.proofs.Moving.{onward_then}
-use Rattle.object_btree.proofs.Views.{stands_later, stored_result, here_now, beside, some_none, place_on}
+use Rattle.object_view.proofs.Views.{stands_later, stored_result, here_now, beside, some_none, place_on}
 use Rattle.object_btree.proofs.Packs.{small, home_again}
 use Rattle.object_btree.proofs.insertion.new_root.Goals as goal
 

@@ -1,7 +1,7 @@
 use Rattle.std.proofs.Common.{◌≡◌, ◌+◌, ℕ, suc, List, length, ◌∷◌, ◌++◌, refl, ap, ◌∙◌, arith}
 use Rattle.std.proofs.lemmas.List.{length-append}
 use Rattle.object_view.specs.Layout.{Entry, IsEntry, entry}
-use Rattle.object_btree.proofs.Paths.{all_join}
+use Rattle.object_view.proofs.Reading.{all_join}
 use Rattle.object_btree.proofs.Leaves.{spell_mid}
 use Rattle.object_btree.proofs.insertion.put_child.Goals as goal
 

@@ -2,7 +2,7 @@ use Rattle.std.proofs.Common.{◌≡◌, length, sym, ap, ◌∙◌, arith}
 use Rattle.object_view.specs.Layout.{IsEntry, entries}
 use Rattle.object_view.specs.Keys.{inserted}
 use Rattle.object_btree.specs.Steps.{Place}
-use Rattle.object_btree.proofs.Views.{tells_from}
+use Rattle.object_view.proofs.Views.{tells_from}
 use Rattle.object_btree.proofs.Leaves.{fits_put, longer_put, Longer, spell_mid}
 use Rattle.object_btree.proofs.insertion.put_leaf.Goals as goal
 

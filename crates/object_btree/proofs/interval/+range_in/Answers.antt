@@ -12,11 +12,11 @@ use Rattle.object_btree.specs.Intervals.{between, gathered}
 use Rattle.object_btree.specs.Levels.{Ahead, Visits}
 use Rattle.object_view.proofs.Layouts.{some_is, none_left, none_more}
 use Rattle.object_view.proofs.Moving.{onward_then}
-use Rattle.object_btree.proofs.Views.{tells_from, look_err, on_served}
+use Rattle.object_view.proofs.Views.{tells_from, look_err, on_served}
 use Rattle.object_btree.proofs.Packs.{small}
 use Rattle.object_btree.proofs.Intervals.{less_of, gather_full}
 use Rattle.object_btree.proofs.RangeSteps.{map_none, LeafItems, leaf_items, ChildStep, child_step, stand_as, both_gathered, tells_to, none_low, wanted}
-use Rattle.object_btree.proofs.Reading.{reads_weaker, reads_then}
+use Rattle.object_view.proofs.Reading.{reads_weaker, reads_then}
 use Rattle.object_btree.proofs.interval.+range_in.Goals as goal
 
 pub returns-then-height-eq0-clause-tells : goal.returns-then-height-eq0-clause-tells

@@ -4,7 +4,7 @@ use Rattle.object_view.specs.Agreement.{stood, State}
 use Rattle.object_view.specs.Layout.{entries, addr_of}
 use Rattle.object_view.specs.Trees.{Sub, is_on}
 use Rattle.object_view.proofs.Moving.{onward_then}
-use Rattle.object_btree.proofs.Views.{gives_look, on_served}
+use Rattle.object_view.proofs.Views.{gives_look, on_served}
 use Rattle.object_btree.proofs.Down.{LeafAt, leaf_at, DownAt, down_at, ChildAt}
 use Rattle.object_btree.proofs.lookup.+get_at.Goals as goal
 

@@ -1,7 +1,7 @@
 use Rattle.std.proofs.Common.{ℕ, List, Some, ap, ◌∙◌}
 use Rattle.object_view.specs.Agreement.{stood}
 use Rattle.object_view.specs.Parts.{with_bytes}
-use Rattle.object_btree.proofs.Views.{made_result, made_lasts}
+use Rattle.object_view.proofs.Views.{made_result, made_lasts}
 use Rattle.object_btree.proofs.nodes.make_node.Goals as goal
 
 pub returns-clause-tells : goal.returns-clause-tells

@@ -4,7 +4,7 @@ use Rattle.object_view.specs.Layout.{object_bytes}
 use Rattle.object_view.specs.Trees.{is_on}
 use Rattle.object_view.proofs.Moving.{onward_then}
 use Rattle.object_view.proofs.Layouts.{some_is, none_left}
-use Rattle.object_btree.proofs.Views.{tells_from, lasts_then, stands_later, here_now, beside, some_none, place_on}
+use Rattle.object_view.proofs.Views.{tells_from, lasts_then, stands_later, here_now, beside, some_none, place_on}
 use Rattle.object_btree.proofs.Packs.{small, cutting, Cutting, halved, right_long, right_fit}
 use Rattle.object_btree.proofs.nodes.pack.Goals as goal
 

@@ -8,8 +8,8 @@ use Rattle.object_view.specs.Layout.{Entry, IsEntry, entries, addr_of}
 use Rattle.object_view.specs.Trees.{is_on, Sub}
 use Rattle.object_btree.specs.Steps.{Route, LeafTaken}
 use Rattle.object_view.proofs.Moving.{onward_then}
-use Rattle.object_btree.proofs.Views.{on_served, some_not_none, tells_from, tells_map}
-use Rattle.object_btree.proofs.Looks.{tells_look}
+use Rattle.object_view.proofs.Views.{on_served, some_not_none, tells_from, tells_map}
+use Rattle.object_view.proofs.Views.{tells_look}
 use Rattle.object_btree.proofs.Down.{RouteParts, route_parts}
 use Rattle.object_btree.proofs.Removals.{RepairTells, LeafOut, leaf_out, DownOut, down_out, ChildOut, firm_as, thin_as}
 use Rattle.object_btree.proofs.Paths.{all_left}

@@ -5,7 +5,7 @@ use Rattle.object_view.specs.Layout.{entries, addr_of, node_bytes}
 use Rattle.object_view.specs.Trees.{is_on}
 use Rattle.object_btree.specs.Steps.{PairAt, JoinedAt}
 use Rattle.object_view.proofs.Moving.{onward_then}
-use Rattle.object_btree.proofs.Views.{on_served, tells_from, tells_map}
+use Rattle.object_view.proofs.Views.{on_served, tells_from, tells_map}
 use Rattle.object_btree.proofs.removal.join.Goals as goal
 
 pub returns-in_err-left_bytes-clause-tells : goal.returns-in_err-left_bytes-clause-tells

@@ -4,8 +4,8 @@ use Rattle.std.specs.List.{AllByRecursion}
 use Rattle.object_view.specs.Layout.{Entry, IsEntry, entries}
 use Rattle.object_view.proofs.Layouts.{some_is}
 use Rattle.object_btree.proofs.Scans.{entries_append}
-use Rattle.object_btree.proofs.Views.{tells_map}
-use Rattle.object_btree.proofs.Paths.{all_join}
+use Rattle.object_view.proofs.Views.{tells_map}
+use Rattle.object_view.proofs.Reading.{all_join}
 use Rattle.object_btree.proofs.Leaves.{spell_mid}
 use Rattle.object_btree.proofs.removal.joined.Goals as goal
 

@@ -2,8 +2,8 @@ use Rattle.std.proofs.Common.{sym, ap, ◌∙◌}
 use Rattle.object_view.specs.Agreement.{Overlay, stood}
 use Rattle.object_view.proofs.Layouts.{some_is}
 use Rattle.object_view.proofs.Moving.{onward_then}
-use Rattle.object_btree.proofs.Views.{some_not_none}
-use Rattle.object_btree.proofs.Looks.{tells_look}
+use Rattle.object_view.proofs.Views.{some_not_none}
+use Rattle.object_view.proofs.Views.{tells_look}
 use Rattle.object_btree.proofs.removal.look_two.Goals as goal
 
 pub returns-in_err-look-clause-tells : goal.returns-in_err-look-clause-tells

@@ -4,8 +4,8 @@ use Rattle.object_view.specs.Layout.{Entry, entries, word_of, node_bytes}
 use Rattle.object_btree.specs.Steps.{Lowered}
 use Rattle.object_view.proofs.Layouts.{some_is, some_left, none_left, none_more}
 use Rattle.object_view.proofs.Moving.{onward_then}
-use Rattle.object_btree.proofs.Views.{on_served, some_not_none, tells_map}
-use Rattle.object_btree.proofs.Looks.{tells_look}
+use Rattle.object_view.proofs.Views.{on_served, some_not_none, tells_map}
+use Rattle.object_view.proofs.Views.{tells_look}
 use Rattle.object_btree.proofs.Anchors.{some_bytes, some_more}
 use Rattle.object_btree.proofs.removal.lower.Goals as goal
 

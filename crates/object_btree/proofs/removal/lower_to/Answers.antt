@@ -1,7 +1,7 @@
 use Rattle.std.proofs.Common.{Some, sym, ap, ◌∙◌}
 use Rattle.object_view.specs.Agreement.{State, stood}
 use Rattle.object_view.proofs.Moving.{onward_then}
-use Rattle.object_btree.proofs.Views.{stands_later, store_lasts, stored_result, here_now, beside}
+use Rattle.object_view.proofs.Views.{stands_later, store_lasts, stored_result, here_now, beside}
 use Rattle.object_btree.proofs.removal.lower_to.Goals as goal
 
 pub take-requires-clause-stands : goal.take-requires-clause-stands

@@ -4,7 +4,7 @@ use Rattle.object_view.specs.Agreement.{stood, State}
 use Rattle.object_view.specs.Layout.{object_bytes}
 use Rattle.object_view.proofs.Layouts.{some_is}
 use Rattle.object_view.proofs.Moving.{onward_then}
-use Rattle.object_btree.proofs.Views.{stands_later, tells_from, here_now, beside}
+use Rattle.object_view.proofs.Views.{stands_later, tells_from, here_now, beside}
 use Rattle.object_btree.proofs.Packs.{small}
 use Rattle.object_btree.proofs.removal.merge.Goals as goal
 

@@ -6,7 +6,7 @@ use Rattle.object_view.specs.Keys.{removed, lookup}
 use Rattle.object_btree.specs.Steps.{Place}
 use Rattle.object_view.proofs.Layouts.{some_is}
 use Rattle.object_btree.proofs.Scans.{entries_append}
-use Rattle.object_btree.proofs.Views.{tells_from, here_now, beside}
+use Rattle.object_view.proofs.Views.{tells_from, here_now, beside}
 use Rattle.object_btree.proofs.Packs.{small}
 use Rattle.object_btree.proofs.Takes.{not_found, shorter, fits_take}
 use Rattle.object_btree.proofs.removal.remove_leaf.Goals as goal

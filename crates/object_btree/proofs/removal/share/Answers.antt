@@ -6,9 +6,9 @@ use Rattle.object_view.specs.Agreement.{stood, State}
 use Rattle.object_view.specs.Layout.{IsEntry, entries, object_bytes}
 use Rattle.object_view.proofs.Layouts.{some_is, none_left}
 use Rattle.object_view.proofs.Moving.{onward_then}
-use Rattle.object_btree.proofs.Views.{stands_later, tells_from, here_now, beside}
+use Rattle.object_view.proofs.Views.{stands_later, tells_from, here_now, beside}
 use Rattle.object_btree.proofs.Packs.{small, Cutting, cutting, right_long, right_fit}
-use Rattle.object_btree.proofs.Paths.{all_join}
+use Rattle.object_view.proofs.Reading.{all_join}
 use Rattle.object_btree.proofs.Leaves.{spell_mid}
 use Rattle.object_btree.proofs.removal.share.Goals as goal
 

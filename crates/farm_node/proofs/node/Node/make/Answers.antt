@@ -1,4 +1,4 @@
-use Rattle.farm_node.proofs.Common.{Some, ap, ◌∙◌, sym, arith, occupancy_of, cells_of, held_in, marked, waits_there}
+use Rattle.farm_node.proofs.Common.{Some, ap, ◌∙◌, arith, occupancy_of, cells_of, held_in, marked, waits_there}
 use Rattle.farm_node.proofs.CellMaps.{agrees_with, agrees_same}
 use Rattle.farm_node.proofs.Dues.{tracked_set, tracked_as, tracked_same}
 use Rattle.farm_node.specs.Waiting.{Waits}

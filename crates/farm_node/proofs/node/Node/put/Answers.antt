@@ -1,4 +1,4 @@
-use Rattle.farm_node.proofs.Common.{Some, is_some, ap, sym, ◌∙◌, subst, occupancy_of, cells_of, set_cell, marked}
+use Rattle.farm_node.proofs.Common.{Some, is_some, ap, ◌∙◌, occupancy_of, cells_of, set_cell, marked}
 use Rattle.farm_node.proofs.CellMaps.{cells_written, agrees_set}
 use Rattle.farm_node.proofs.Dues.{tracked_put, settles, some_lock, held_by, locks_ended, installed_open}
 use Rattle.farm_node.proofs.node.Node.put.Goals as goal

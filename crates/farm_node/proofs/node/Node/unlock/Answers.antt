@@ -1,4 +1,4 @@
-use Rattle.farm_node.proofs.Common.{Some, is_some, ap, sym, ◌∙◌, refl, occupancy_of, cells_of, marked, Cell}
+use Rattle.farm_node.proofs.Common.{Some, is_some, ap, occupancy_of, cells_of, marked, Cell}
 use Rattle.farm_node.proofs.CellMaps.{cells_written, agrees_set}
 use Rattle.farm_node.proofs.Dues.{tracked_kept, tracked_as, some_lock, held_by, locks_ended}
 use Rattle.farm_node.specs.Waiting.{Waits, held_in}

@@ -3,7 +3,7 @@ use Rattle.a1_base.specs.declared.place.Addr.{Addr}
 use Rattle.object_view.specs.Agreement.{stood, State}
 use Rattle.object_view.specs.Layout.{addr_of, anchor_bytes, object_bytes}
 use Rattle.object_view.proofs.Moving.{onward_then}
-use Rattle.object_btree.proofs.Views.{some_not_none, none_some, here_now, beside, place_on}
+use Rattle.object_view.proofs.Views.{some_not_none, none_some, here_now, beside, place_on}
 use Rattle.object_btree.proofs.Anchors.{tree_created}
 use Rattle.object_btree.proofs.Packs.{home_again}
 use Rattle.object_btree.proofs.tree.Tree.create.Goals as goal

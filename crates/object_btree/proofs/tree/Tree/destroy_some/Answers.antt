@@ -6,7 +6,7 @@ use Rattle.object_view.specs.Trees.{is_on}
 use Rattle.object_view.proofs.Layouts.{some_is}
 use Rattle.object_view.proofs.Moving.{onward_then}
 use Rattle.object_btree.specs.Remains.{LessBy}
-use Rattle.object_btree.proofs.Views.{tells_from, some_not_none}
+use Rattle.object_view.proofs.Views.{tells_from, some_not_none}
 use Rattle.object_btree.proofs.Freeing.{DropTells, drop_as, served_later, Gone, all_gone}
 use Rattle.object_btree.proofs.Rests.{RestAt, rest_at, root_below, stays, ends}
 use Rattle.object_btree.proofs.tree.Tree.destroy_some.Goals as goal

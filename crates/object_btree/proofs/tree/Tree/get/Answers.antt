@@ -4,9 +4,9 @@ use Rattle.object_view.specs.Layout.{Entry, addr_of, word_of, anchor_bytes}
 use Rattle.object_view.specs.Trees.{is_on}
 use Rattle.object_view.proofs.Layouts.{some_is}
 use Rattle.object_view.proofs.Moving.{onward_then}
-use Rattle.object_btree.specs.Steps.{Gives}
+use Rattle.object_view.specs.Parts.{Gives}
 use Rattle.object_view.specs.Keys.{lookup}
-use Rattle.object_btree.proofs.Views.{gives_look}
+use Rattle.object_view.proofs.Views.{gives_look}
 use Rattle.object_btree.proofs.Anchors.{tree_gives}
 use Rattle.object_btree.proofs.tree.Tree.get.Goals as goal
 

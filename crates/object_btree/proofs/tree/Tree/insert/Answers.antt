@@ -6,8 +6,9 @@ use Rattle.object_view.specs.Layout.{addr_of, word_of, anchor_bytes}
 use Rattle.object_view.specs.Trees.{is_on, root_least}
 use Rattle.object_view.proofs.Layouts.{some_is}
 use Rattle.object_view.proofs.Moving.{onward_then}
-use Rattle.object_btree.specs.Steps.{Inserts, Tells}
-use Rattle.object_btree.proofs.Views.{look_err, stands_later}
+use Rattle.object_btree.specs.Steps.{Inserts}
+use Rattle.object_view.specs.Parts.{Tells}
+use Rattle.object_view.proofs.Views.{look_err, stands_later}
 use Rattle.object_btree.proofs.Roots.{tree_from, tree_inserts, tree_same, tree_tall, tree_above, split_short, put_tells}
 use Rattle.object_btree.proofs.tree.Tree.insert.Goals as goal
 

@@ -3,17 +3,16 @@ use Rattle.std.specs.Prelude.{map, take}
 use Rattle.a1_base.specs.declared.place.Addr.{Addr}
 use Rattle.object_view.specs.Agreement.{stood, State}
 use Rattle.object_view.specs.Layout.{Entry, entries, addr_of, word_of, node_bytes, anchor_bytes}
-use Rattle.object_view.specs.Parts.{ReadsOnly}
+use Rattle.object_view.specs.Parts.{ReadsOnly, Tells}
 use Rattle.object_view.specs.Trees.{spell, is_on, IsRooted}
 use Rattle.object_view.proofs.Layouts.{some_is}
 use Rattle.object_view.proofs.Moving.{onward_then}
 use Rattle.object_btree.specs.Intervals.{between}
 use Rattle.object_btree.specs.Levels.{Visits, RangeReads}
-use Rattle.object_btree.specs.Steps.{Tells}
-use Rattle.object_btree.proofs.Views.{tells_from, look_err, on_served}
+use Rattle.object_view.proofs.Views.{tells_from, look_err, on_served}
 use Rattle.object_btree.proofs.Freeing.{served_later}
 use Rattle.object_btree.proofs.RangeSteps.{tree_ranges, tree_visits}
-use Rattle.object_btree.proofs.Reading.{reads_weaker, reads_then}
+use Rattle.object_view.proofs.Reading.{reads_weaker, reads_then}
 use Rattle.object_btree.proofs.tree.Tree.range.Goals as goal
 
 pub returns-in_err-bytes-clause-tells : goal.returns-in_err-bytes-clause-tells

@@ -4,11 +4,12 @@ use Rattle.a1_base.specs.declared.place.Addr.{Addr}
 use Rattle.object_view.specs.Agreement.{Agrees, State, stood}
 use Rattle.object_view.specs.Layout.{addr_of, word_of, anchor_bytes}
 use Rattle.object_view.specs.Trees.{is_on, root_least, spell}
-use Rattle.object_btree.specs.Steps.{Removes, Tells}
+use Rattle.object_btree.specs.Steps.{Removes}
+use Rattle.object_view.specs.Parts.{Tells}
 use Rattle.object_view.proofs.Layouts.{some_is}
 use Rattle.object_view.proofs.Moving.{onward_then}
-use Rattle.object_btree.proofs.Views.{some_not_none, tells_from}
-use Rattle.object_btree.proofs.Looks.{tells_look}
+use Rattle.object_view.proofs.Views.{some_not_none, tells_from}
+use Rattle.object_view.proofs.Views.{tells_look}
 use Rattle.object_btree.proofs.Anchors.{tree_removes, tree_firm, tree_leaf, root_at, tree_lower}
 use Rattle.object_btree.proofs.Outcomes.{taken_tells}
 use Rattle.object_btree.proofs.tree.Tree.remove.Goals as goal

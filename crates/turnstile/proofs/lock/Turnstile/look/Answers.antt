@@ -2,8 +2,8 @@ use Rattle.std.proofs.Common.{rules, ap, ◌∙◌}
 use Rattle.turnstile.proofs.Looks.{looks_any}
 use Rattle.turnstile.proofs.lock.Turnstile.look.Goals as goal
 
-pub load-requires : goal.load-requires
-load-requires g c =
+pub load-serving-requires : goal.load-serving-requires
+load-serving-requires g c =
     let same = c.loop.invariant.4 in let w = c.requires.waits in (
       search rules,
       search rules,

@@ -4,7 +4,11 @@ use Rattle.std.specs.List.{AllByRecursion}
 use Rattle.a1_base.specs.declared.place.Addr.{Addr}
 use Rattle.object_view.specs.Agreement.{Seen}
 use Rattle.object_view.specs.Parts.{ReadsOnly}
-use Rattle.object_btree.proofs.Paths.{all_join}
+
+pub all_join : {A : Type 0} (P : A → Type 0) (xs ys : List A) → AllByRecursion P xs → AllByRecursion P ys
+    → AllByRecursion P (xs ++ ys)
+all_join P [] ys p q = q
+all_join P (x ∷ xs) ys p q = (p.0, all_join P xs ys p.1 q)
 
 all_weaker : (P Q : Addr → Type 0) → ((a : Addr) → P a → Q a) → (xs : List Seen)
     → AllByRecursion (λ (s : Seen). P s.at) xs → AllByRecursion (λ (s : Seen). Q s.at) xs

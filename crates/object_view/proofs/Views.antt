@@ -4,12 +4,11 @@ use Rattle.std.specs.Prelude.{IsSome, IsErrAnd, ◌==◌}
 use Rattle.a1_base.specs.declared.place.Addr.{Addr}
 use Rattle.object_view.specs.Agreement.{Heap, Overlay, Seen, State, Agrees, stood, same_addr}
 use Rattle.object_view.specs.Calls.{StandsIn}
-use Rattle.object_view.specs.Parts.{with_bytes, LookTells}
+use Rattle.object_view.specs.Parts.{with_bytes, LookTells, Tells, Gives, Lasts}
 use Rattle.object_view.specs.Trees.{is_on}
 use Rattle.object_view.specs.declared.parts.PartFault.{PartFault}
 use Rattle.object_view.specs.declared.parts.PartFault.TheVariants as part
 use Rattle.object_view.proofs.Addresses.{same_or, same_itself}
-use Rattle.object_btree.specs.Steps.{Tells, Gives, Lasts}
 
 -- ---- answers
 
@@ -55,6 +54,19 @@ pub gives_look : {A : Type 0} (x : Result A PartFault) (at : Addr) (e : PartFaul
 gives_look (Ok y) at e r o b want h l served some = absurd h
 gives_look {A} (Err f) at e r o b want h l served some =
     subst (λ (g : PartFault). Gives {A = A} (Err g) want) (sym h) (look_gives at e r o b want l served some)
+
+there_tells : {A : Type 0} (at : Addr) (e : PartFault) (r : Bool) (o : Option (List ℕ)) (P : A → Type 0)
+    → LookTells at r o (Err e) → r ≡ true → (o ≡ None → ⊥) → Tells {A = A} (Err e) P
+there_tells at part.Memory r o P l served there = tt
+there_tells at (part.Spent n) r o P l served there = absurd l
+there_tells at (part.Torn a) r o P l served there = there (l.1 served)
+there_tells at part.Tall r o P l served there = absurd l
+
+pub tells_look : {A : Type 0} (x : Result A PartFault) (at : Addr) (e : PartFault) (r : Bool) (o : Option (List ℕ))
+    (P : A → Type 0) → IsErrAnd x (λ f. f ≡ e) → LookTells at r o (Err e) → r ≡ true → (o ≡ None → ⊥) → Tells x P
+tells_look (Ok y) at e r o P h l served there = absurd h
+tells_look {A} (Err f) at e r o P h l served there =
+    subst (λ (g : PartFault). Tells {A = A} (Err g) P) (sym h) (there_tells at e r o P l served there)
 
 pub memory_tells : {A : Type 0} (e : PartFault) (P : A → Type 0) → e ≡ part.Memory → Tells {A = A} (Err e) P
 memory_tells {A} e P m = subst (λ (x : PartFault). Tells {A = A} (Err x) P) (sym m) tt

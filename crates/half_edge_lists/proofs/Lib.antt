@@ -1,0 +1,13 @@
+pub mod Adding
+pub mod Becoming
+pub mod Behind
+pub mod Composing
+pub mod Decoding
+pub mod Entering
+pub mod Filling
+pub mod Halves
+pub mod Placing
+pub mod Removing
+pub mod Sizes
+pub mod Turning
+pub mod Walks

@@ -1,0 +1,4 @@
+pub mod Changes
+pub mod Forms
+pub mod Steps
+pub mod Together
