@@ -91,6 +91,7 @@ impl Stamps {
         ensures some { IfSome result (λ stamp. ((watch seat.old).known < stamp) × (stamp ≤ LAST_STAMP)
             × (watch seat.new ≡ having_drawn stamp (having_looked (watch seat.old)))) }
         ensures none { IfNone result ((watch seat.new).known ≡ LAST_STAMP) }
+        ensures known { (watch seat.old).known ≤ (watch seat.new).known }
         ensures drawn { (watch seat.new).drawn ≡ (watch seat.old).drawn ++ option_to_list result }
         ensures lanes { (watch seat.new).lanes ≡ (watch seat.old).lanes }
         ensures steps { DrawsStamp (watch seat.old) result (watch seat.new) }

@@ -16,4 +16,11 @@ impl<T: Keeps> Turn<T> {
     {
         &mut self.value
     }
+
+    /// The value, to look at.
+    pub fn get(&self) -> &T
+        ensures { result.now ≡ self.now.value }
+    {
+        &self.value
+    }
 }

@@ -107,19 +107,35 @@ impl<T: Keeps> Turnstile<T> {
         }
     }
 
-    /// Ends a turn. `about` tells which entries the turn added: the value stands for the list that was entered with
-    /// these behind it, and each bears a number that the pass holds.
-    pub fn leave<Q: Tells<T::Entry>>(&self, turn: Turn<T>, about: &Q) -> Pass<T>
+    /// Tells in a turn which entries were added since it began, or since it last told: they then stand behind the list
+    /// that was entered, and each bears a number that the pass holds. A turn may tell of several events, one by one.
+    pub fn note<Q: Tells<T::Entry>>(&self, turn: Turn<T>, about: &Q) -> Turn<T>
         requires turn { IsTurnOf self.now turn }
-        requires stands { T.stands turn.value (entered turn ++ Q.entries about.now) }
         requires mine { AllOf T.number (turn_numbers turn) (Q.entries about.now) }
-        ensures pass { IsPassOf self.now result }
-        ensures numbers { numbers result ≡ turn_numbers turn }
-        ensures seen { seen result ≡ entered turn ++ Q.entries about.now }
+        ensures turn { IsTurnOf self.now result }
+        ensures numbers { turn_numbers result ≡ turn_numbers turn }
+        ensures value { result.value ≡ turn.value }
+        ensures entered { entered result ≡ entered turn ++ Q.entries about.now }
     {
         let Turn { held, value } = turn;
         let Held { mut seat } = held;
         self.count::<Q, Brand>(&mut seat, about);
+        Turn {
+            held: Held { seat },
+            value,
+        }
+    }
+
+    /// Ends a turn. The value stands for the list that was entered, with the entries behind it of which the turn told.
+    pub fn leave(&self, turn: Turn<T>) -> Pass<T>
+        requires turn { IsTurnOf self.now turn }
+        requires stands { T.stands turn.value (entered turn) }
+        ensures pass { IsPassOf self.now result }
+        ensures numbers { numbers result ≡ turn_numbers turn }
+        ensures seen { seen result ≡ entered turn }
+    {
+        let Turn { held, value } = turn;
+        let Held { mut seat } = held;
         let empty = self.table.shared.exchange(&mut seat, 0, Some(value));
         let None = empty else { unreachable!() };
         self.serve_next(&mut seat);

@@ -66,7 +66,8 @@ fn write<R: Wait>(
         Ok(()) => Some((by, nth)),
         Err(_) => None,
     };
-    (lock.leave(turn, &Written { mark }), mark.is_some())
+    let turn = lock.note(turn, &Written { mark });
+    (lock.leave(turn), mark.is_some())
 }
 
 // Many turns of one writer, and whether all its marks were written.
