@@ -1,0 +1,4 @@
+pub mod Running
+pub mod Stories
+pub mod Part
+pub mod Locking
