@@ -1,0 +1,11 @@
+pub mod Nodes
+pub mod Parts
+pub mod Farms
+pub mod Building
+pub mod Making
+pub mod Commits
+pub mod Steps
+pub mod Begins
+pub mod Closing
+pub mod Views
+pub mod Ending
