@@ -15,6 +15,8 @@ mod committing;
 mod ending;
 mod farm;
 mod steps;
+#[cfg(test)]
+mod tests;
 mod viewing;
 
 pub use actor::{Actor, Open};
