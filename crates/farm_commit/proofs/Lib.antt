@@ -1,3 +1,4 @@
+pub mod Sent
 pub mod Stepping
 pub mod Committed
 pub mod NodeSteps

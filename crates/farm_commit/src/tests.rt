@@ -1,4 +1,4 @@
-//! Actors that make, read and write objects of a farm, by turns in one thread.
+//! Actors that make, read and write objects of a farm, in one thread and in several.
 ghost use Rattle.std.specs.Prelude.{◌≡◌, IfOk};
 ghost use Rattle.farm_commit.specs.Farms.{IsActorOf, IsOpenOf};
 
@@ -7,6 +7,7 @@ use a1_base::{Addr, Bin, Memory, push_u64, u64_at};
 use std::alloc::Global;
 use std::sync::Wait;
 use std::test::Fail;
+use std::thread::join;
 
 // A farm of three nodes without objects, and its two actors.
 fn farm_of_two(alloc: Global) -> Result<(Farm, Actor, Actor), Fail>
@@ -131,5 +132,57 @@ fn the_later_of_two_writers_is_told(rt: HostRuntime) -> Result<(), Fail> {
         now: 3,
     };
     assert_eq!(rt; answer, changed);
+    Ok(())
+}
+
+// Adds one to a number over and over, and answers how often it was done.
+fn add_often<R: Wait>(
+    rt: &R,
+    alloc: Global,
+    farm: &Farm,
+    actor: Actor,
+    at: Addr,
+    times: u32,
+) -> Result<(Actor, u64), Memory>
+    requires { IsActorOf farm.now actor }
+    ensures { IfOk result (λ r. IsActorOf farm.now r.0) }
+{
+    let mut whose = actor;
+    let mut dones: u64 = 0;
+    for _ in 0..times {
+        let mut txn = farm.begin(rt, whose);
+        add_to(rt, alloc, farm, &mut txn, at, 1)?;
+        let (left, answer) = farm.commit(rt, txn);
+        whose = left;
+        if let Commit::Done { .. } = answer {
+            dones = dones.wrapping_add(1);
+        }
+    }
+    Ok((whose, dones))
+}
+
+#[test]
+fn no_addition_of_two_threads_is_lost(rt: HostRuntime) -> Result<(), Fail> {
+    let alloc = rt.alloc();
+    let (farm, first, second) = farm_of_two(alloc)?;
+    let (first, at, _) = make(&rt, alloc, &farm, first, 0)?;
+    let (one, two) = join(
+        &rt,
+        || -> Result<(Actor, u64), Memory>
+            requires { IsActorOf farm first }
+            ensures { IfOk result (λ r. IsActorOf farm r.0) }
+        { add_often(&rt, alloc, &farm, first, at, 2_000) },
+        || -> Result<(Actor, u64), Memory>
+            requires { IsActorOf farm second }
+            ensures { IfOk result (λ r. IsActorOf farm r.0) }
+        { add_often(&rt, alloc, &farm, second, at, 2_000) },
+    );
+    let (first, ones) = one?;
+    let (_, twos) = two?;
+    let mut txn = farm.begin(&rt, first);
+    let sum = number_at(&rt, alloc, &farm, &mut txn, at)?;
+    assert_eq!(rt; sum, Some(ones.wrapping_add(twos)));
+    assert!(rt; ones > 0 || twos > 0);
+    farm.end(&rt, txn);
     Ok(())
 }
